@@ -53,6 +53,116 @@ static void check_sizes(void)
     SIZE(rows, 24);
 }
 
+/* ---- arrays without items, which are NULL ---- */
+
+static const struct volgwain_tables no_tables = {NULL, 0, NULL, 0, NULL, 0, NULL, 0};
+static const struct volgwain_traces no_traces = {NULL, 0, 0, NULL, 0, 0, NULL, 0};
+
+/* The calls on one AIR that has nothing. */
+static void check_null_airs(void)
+{
+    static const struct volgwain_element one = {{1, 0, 0, 0}};
+    static const struct volgwain_plan_sizes sizes = {1, 0};
+    static const uint32_t cell[] = {3};
+    static const struct volgwain_traces row = {cell, 1, 1, NULL, 0, 0, NULL, 0};
+    static const struct volgwain_rows rows = {0, 1, 1};
+    static const struct volgwain_air_witness witness = {NULL, 0, 0, {0, {{0, 0, 0, 0}}}};
+    struct volgwain_terminal terminal = {1, {{1, 0, 0, 0}}};
+    struct volgwain_element sum = {{1, 0, 0, 0}};
+    struct volgwain_table_sizes written = {1, 1, 1, 1};
+    struct volgwain_refusal refusal;
+    memset(&refusal, 0, sizeof refusal);
+    check(volgwain_generate(&no_tables, &no_traces, NULL, 0, NULL, 0, &terminal, &refusal, NULL, 0)
+                == VOLGWAIN_OK
+            && terminal.present == 0,
+        "generate with NULL");
+    terminal.present = 1;
+    check(volgwain_generate_by_ids(&no_tables, &no_traces, NULL, 0, &sizes, &one, &one, NULL, 0, &terminal,
+              &refusal, NULL, 0)
+                == VOLGWAIN_OK
+            && terminal.present == 0,
+        "generate_by_ids with NULL");
+    check(volgwain_generate_rows(&no_tables, &row, &rows, NULL, 0, &sizes, &one, &one, NULL, 0, &sum, &refusal,
+              NULL, 0)
+                == VOLGWAIN_OK
+            && sum.c[0] == 0,
+        "generate_rows with NULL");
+    check(volgwain_verify_rows(&no_tables, &row, &rows, NULL, 0, &sizes, &one, &one, &witness, &refusal, NULL,
+              0)
+            == VOLGWAIN_OK,
+        "verify_rows with NULL");
+    check(volgwain_shift(NULL, 0, 1, &one, &refusal, NULL, 0) == VOLGWAIN_OK, "shift with NULL");
+    check(volgwain_degrees(&no_tables, NULL, 0, &refusal, NULL, 0) == VOLGWAIN_OK, "degrees with NULL");
+    check(volgwain_pack(&no_tables, 3, NULL, 0, NULL, 0, NULL, 0, NULL, 0, &written, &refusal, NULL, 0)
+                == VOLGWAIN_OK
+            && written.nodes + written.tuples + written.names + written.records == 0,
+        "pack with NULL");
+    written.records = 1;
+    check(volgwain_read_json("[]", 2, NULL, 0, NULL, 0, NULL, 0, NULL, 0, &written, &refusal, NULL, 0)
+                == VOLGWAIN_OK
+            && written.records == 0,
+        "read_json into NULL");
+    check(volgwain_read_json(NULL, 0, NULL, 0, NULL, 0, NULL, 0, NULL, 0, &written, &refusal, NULL, 0)
+                == VOLGWAIN_BAD_TEXT
+            && refusal.text_length > 0,
+        "read_json of NULL");
+}
+
+/* The calls on a batch of no AIRs, and then on one AIR that has nothing. */
+static void check_null_batches(void)
+{
+    static const struct volgwain_element one = {{1, 0, 0, 0}};
+    static const struct volgwain_air_witness witness = {NULL, 0, 0, {0, {{0, 0, 0, 0}}}};
+    struct volgwain_air air;
+    struct volgwain_plan_sizes sizes;
+    struct volgwain_counts counts;
+    struct volgwain_height_counts height_counts;
+    struct volgwain_grid grid;
+    struct volgwain_terminal terminal;
+    struct volgwain_refusal refusal;
+    size_t airs;
+    memset(&sizes, 0, sizeof sizes);
+    memset(&counts, 0, sizeof counts);
+    memset(&height_counts, 0, sizeof height_counts);
+    memset(&grid, 0, sizeof grid);
+    memset(&terminal, 0, sizeof terminal);
+    memset(&refusal, 0, sizeof refusal);
+    air.tables = no_tables;
+    air.height = 0;
+    for (airs = 0; airs <= 1; airs++) {
+        const struct volgwain_air *list = airs == 0 ? NULL : &air;
+        const struct volgwain_traces *traces = airs == 0 ? NULL : &no_traces;
+        check(volgwain_plan(list, airs, NULL, 0, &sizes, &refusal, NULL, 0) == VOLGWAIN_OK
+                && sizes.max_message_width == 1 && sizes.num_ids == 0,
+            "plan with NULL");
+        check(volgwain_prove(list, airs, traces, airs, &one, &one, NULL, 0, airs == 0 ? NULL : &terminal, airs,
+                  &refusal, NULL, 0)
+                == VOLGWAIN_OK,
+            "prove with NULL");
+        check(volgwain_verify(list, airs, traces, airs, &one, &one, airs == 0 ? NULL : &witness, airs,
+                  &refusal, NULL, 0)
+                == VOLGWAIN_OK,
+            "verify with NULL");
+        check(volgwain_soundness_count(list, airs, traces, airs, &counts, &refusal, NULL, 0) == VOLGWAIN_OK,
+            "soundness_count with NULL");
+        check(volgwain_soundness_of_heights(list, airs, &height_counts, &refusal, NULL, 0) == VOLGWAIN_OK,
+            "soundness_of_heights with NULL");
+        check(volgwain_grid_count(list, airs, traces, airs, NULL, 0, NULL, 0, &grid, &refusal, NULL, 0)
+                == VOLGWAIN_OK,
+            "grid_count with NULL");
+        check(volgwain_debug_check(airs == 0 ? NULL : &no_tables, airs, traces, airs, &refusal, NULL, 0)
+                == VOLGWAIN_OK,
+            "debug_check with NULL");
+    }
+}
+
+/* ---- the number of the interface ---- */
+
+static void check_abi(void)
+{
+    check(VOLGWAIN_ABI == 1 && volgwain_abi_1() == 1, "the number of the interface");
+}
+
 /* ---- memory: how many blocks are live, how many were asked for, and which requests are refused ---- */
 
 static long live = 0;
@@ -218,9 +328,11 @@ static void check_generation(void)
     check(has_text(&it.refusal, it.text, "air 0: row 0, lookup 0: vanishing denominator"),
         "the text of a vanishing denominator");
     it.text[3] = '#';
-    volgwain_generate(&it.tables, &it.traces, it.challenges, 2, it.auxiliary, 4, &it.terminal,
-        &it.refusal, it.text, 3);
-    check(it.text[3] == '#' && it.refusal.text_length == 45, "a text is cut");
+    check(volgwain_generate(&it.tables, &it.traces, it.challenges, 2, it.auxiliary, 4, &it.terminal,
+              &it.refusal, it.text, 3)
+                == VOLGWAIN_VANISHING_DENOMINATOR
+            && it.text[3] == '#' && it.refusal.text_length == 45,
+        "a text is cut");
 
     make_range(&it);
     it.challenges[0].c[0] = 4;
@@ -1748,6 +1860,222 @@ static void check_shifts(void)
     check(asked == before, "a shift asks for no memory");
 }
 
+/* ---- KoalaBear: each call once, on numbers that BabyBear does not have where that can be ---- */
+
+/* 1/2 is (p + 1) / 2, 1/4 is (3p + 1) / 4 and 1/3 is (p + 1) / 3 */
+#define KOALA_HALF 1065353217u
+#define KOALA_MINUS_HALF 1065353216u
+#define KOALA_QUARTER 1598029825u
+#define KOALA_THIRD 710235478u
+
+/* The batch of two AIRs, with an entry that is never used and is no number of BabyBear. */
+static void make_koala(struct bus *it)
+{
+    make_bus(it);
+    it->entries[2] = VOLGWAIN_MODULUS;
+}
+
+static uint32_t prove_koala(struct bus *it)
+{
+    return volgwain_koala_bear_prove(it->airs, 2, it->traces, 2, &it->alpha, &it->beta, it->auxiliary, 8,
+        it->terminals, 2, &it->refusal, it->text, sizeof it->text);
+}
+
+static uint32_t verify_koala(struct bus *it)
+{
+    struct volgwain_air_witness witness[2];
+    int air;
+    for (air = 0; air < 2; air++) {
+        witness[air].auxiliary = &it->auxiliary[4 * air];
+        witness[air].auxiliary_length = 4;
+        witness[air].width = 2;
+        witness[air].terminal = it->terminals[air];
+    }
+    return volgwain_koala_bear_verify(it->airs, 2, it->traces, 2, &it->alpha, &it->beta, witness, 2,
+        &it->refusal, it->text, sizeof it->text);
+}
+
+/* The prefix is 7, as over BabyBear, so the denominator of 3 is 4. */
+static int is_proved_koala(const struct bus *it)
+{
+    const struct volgwain_element *a = it->auxiliary;
+    return it->refusal.code == 0 && is_base(&a[0], 0) && is_base(&a[1], KOALA_QUARTER)
+           && is_base(&a[2], KOALA_QUARTER) && is_base(&a[3], KOALA_QUARTER) && is_base(&a[4], 0)
+           && is_base(&a[5], KOALA_MINUS_HALF) && is_base(&a[6], KOALA_MINUS_HALF) && is_base(&a[7], 0)
+           && it->terminals[0].present == 1 && is_base(&it->terminals[0].value, KOALA_HALF)
+           && it->terminals[1].present == 1 && is_base(&it->terminals[1].value, KOALA_MINUS_HALF);
+}
+
+static int is_cube(const struct volgwain_element *x, uint32_t c3)
+{
+    return x->c[0] == 0 && x->c[1] == 0 && x->c[2] == 0 && x->c[3] == c3;
+}
+
+static void check_koala_proofs(void)
+{
+    struct bus it;
+    make_koala(&it);
+    check(prove_koala(&it) == VOLGWAIN_OK && is_proved_koala(&it), "a batch over KoalaBear is proved");
+    check(verify_koala(&it) == VOLGWAIN_OK, "and its witness accepted");
+    check(verify(&it) == VOLGWAIN_BAD_NUMBER, "which is none over BabyBear");
+    it.auxiliary[7].c[2] = 1;
+    check_refused_witness(
+        &it, "a fraction over KoalaBear", verify_koala(&it), VOLGWAIN_CONSTRAINT_FAILED, 1, 1);
+    it.entries[2] = VOLGWAIN_KOALA_BEAR_MODULUS;
+    check(prove_koala(&it) == VOLGWAIN_BAD_NUMBER && it.refusal.air == 1 && it.refusal.row == 2,
+        "the modulus of KoalaBear");
+
+    make_bus(&it);
+    check(prove(&it) == VOLGWAIN_OK, "the worked batch again");
+    check(verify_koala(&it) == VOLGWAIN_CONSTRAINT_FAILED, "a witness of BabyBear over KoalaBear");
+
+    /* the prefix is 3 + X, so the denominator of 3 is X, and 1/X is X^3 / 3, where it is X^3 / 11 over
+     * BabyBear */
+    make_koala(&it);
+    it.alpha.c[0] = 3;
+    it.beta.c[0] = 0;
+    it.beta.c[1] = 1;
+    check(prove_koala(&it) == VOLGWAIN_OK && is_cube(&it.auxiliary[1], KOALA_THIRD)
+              && is_cube(&it.auxiliary[3], KOALA_THIRD) && is_cube(&it.terminals[0].value, 2 * KOALA_THIRD)
+              && is_cube(&it.auxiliary[5], KOALA_THIRD - 1),
+        "a denominator X over KoalaBear");
+    check(verify_koala(&it) == VOLGWAIN_OK, "and its witness");
+}
+
+static void check_koala_plans(void)
+{
+    static const struct volgwain_element alphas[2] = {{{5, 0, 0, 0}}, {{1, 0, 0, 0}}};
+    struct bus it;
+    struct volgwain_plan_sizes sizes = {9, 9};
+    struct volgwain_counts counts;
+    struct volgwain_height_counts heights;
+    struct volgwain_grid grid;
+    struct volgwain_tables tables[2];
+    size_t ids[2] = {9, 9};
+    memset(&counts, 9, sizeof counts);
+    memset(&heights, 9, sizeof heights);
+    memset(&grid, 9, sizeof grid);
+    make_koala(&it);
+    tables[0] = it.airs[0].tables;
+    tables[1] = it.airs[1].tables;
+    /* twice this weight is the modulus less one */
+    it.asks[0].weight = KOALA_MINUS_HALF;
+    check(volgwain_koala_bear_plan(it.airs, 2, ids, 2, &sizes, &it.refusal, it.text, sizeof it.text)
+                  == VOLGWAIN_OK
+              && ids[0] == 0 && ids[1] == 0 && sizes.max_message_width == 1 && sizes.num_ids == 1,
+        "a plan over KoalaBear");
+    check(plan(&it, ids, 2, &sizes) == VOLGWAIN_HEIGHT_BOUND, "whose weights are too great for BabyBear");
+    it.asks[0].weight = KOALA_HALF;
+    check(volgwain_koala_bear_plan(it.airs, 2, ids, 2, &sizes, &it.refusal, it.text, sizeof it.text)
+              == VOLGWAIN_HEIGHT_BOUND,
+        "a weight more");
+    it.asks[0].weight = 1;
+    /* 3 and the entry that is never used; four rows with a message each */
+    check(volgwain_koala_bear_soundness_count(
+              it.airs, 2, it.traces, 2, &counts, &it.refusal, it.text, sizeof it.text)
+                  == VOLGWAIN_OK
+              && are_counts(&counts, 2, 0, 0, 0, 0, 0),
+        "messages over KoalaBear");
+    check(volgwain_koala_bear_soundness_of_heights(it.airs, 2, &heights, &it.refusal, it.text, sizeof it.text)
+                  == VOLGWAIN_OK
+              && are_height_counts(&heights, 4, 3, 1, 7),
+        "heights over KoalaBear");
+    /* at 1 the denominator of 3 vanishes */
+    check(volgwain_koala_bear_grid_count(
+              it.airs, 2, it.traces, 2, alphas, 2, &it.beta, 1, &grid, &it.refusal, it.text, sizeof it.text)
+                  == VOLGWAIN_OK
+              && grid.accepted.low == 1 && grid.accepted.high == 0 && grid.bounded == 0,
+        "a grid over KoalaBear");
+    check(volgwain_koala_bear_debug_check(tables, 2, it.traces, 2, &it.refusal, it.text, sizeof it.text)
+              == VOLGWAIN_OK,
+        "tuples that balance over KoalaBear");
+}
+
+static void check_koala_airs(void)
+{
+    static const struct volgwain_rows all = {0, 2, 2};
+    static const struct volgwain_plan_sizes sizes = {1, 1};
+    static const size_t id = 0;
+    struct range one;
+    struct bus it;
+    struct volgwain_air_witness witness;
+    static const struct volgwain_element kept = {{1, 1, 1, 1}};
+    struct volgwain_element sum, cells[2] = {{{VOLGWAIN_KOALA_BEAR_MODULUS - 1, 0, 0, 5}}, {{1, 1, 1, 1}}};
+    static const struct volgwain_element offset = {{2, 0, 0, VOLGWAIN_KOALA_BEAR_MODULUS - 5}};
+    make_range(&one);
+    check(volgwain_koala_bear_generate(&one.tables, &one.traces, one.challenges, 2, one.auxiliary, 4,
+              &one.terminal, &one.refusal, one.text, sizeof one.text)
+                  == VOLGWAIN_OK
+              && is_base(&one.auxiliary[1], KOALA_MINUS_HALF) && is_base(&one.auxiliary[2], KOALA_MINUS_HALF)
+              && is_base(&one.auxiliary[3], KOALA_HALF) && one.terminal.present == 1
+              && is_base(&one.terminal.value, 0),
+        "the worked rows over KoalaBear");
+    make_koala(&it);
+    check(volgwain_koala_bear_generate_by_ids(&it.airs[0].tables, &it.traces[0], &id, 1, &sizes, &it.alpha,
+              &it.beta, it.auxiliary, 4, &it.terminals[0], &it.refusal, it.text, sizeof it.text)
+                  == VOLGWAIN_OK
+              && is_base(&it.auxiliary[3], KOALA_QUARTER) && is_base(&it.terminals[0].value, KOALA_HALF),
+        "an AIR by ids over KoalaBear");
+    witness.auxiliary = it.auxiliary;
+    witness.auxiliary_length = 4;
+    witness.width = 2;
+    witness.terminal = it.terminals[0];
+    check(volgwain_koala_bear_verify_rows(&it.airs[0].tables, &it.traces[0], &all, &id, 1, &sizes, &it.alpha,
+              &it.beta, &witness, &it.refusal, it.text, sizeof it.text)
+              == VOLGWAIN_OK,
+        "its rows verified over KoalaBear");
+    check(volgwain_koala_bear_generate_rows(&it.airs[0].tables, &it.traces[0], &all, &id, 1, &sizes,
+              &it.alpha, &it.beta, it.auxiliary, 4, &sum, &it.refusal, it.text, sizeof it.text)
+                  == VOLGWAIN_OK
+              && is_base(&it.auxiliary[2], KOALA_QUARTER) && is_base(&sum, KOALA_HALF),
+        "its rows generated over KoalaBear");
+    check(volgwain_koala_bear_shift(cells, 2, 2, &offset, &it.refusal, it.text, sizeof it.text) == VOLGWAIN_OK
+              && is_base(&cells[0], 1) && memcmp(&cells[1], &kept, sizeof kept) == 0,
+        "a shift past the modulus of KoalaBear");
+}
+
+static void check_koala_tables(void)
+{
+    static const char json[] =
+        "[{\"kind\":\"Local\",\"elements\":[[]],\"multiplicities\":[{\"Leaf\":{\"Constant\":"
+        "2013265921}}],\"count_weight\":0,\"column\":0,\"flags\":null}]";
+    static const char large[] =
+        "[{\"kind\":\"Local\",\"elements\":[[]],\"multiplicities\":[{\"Leaf\":{\"Constant\":"
+        "2130706433}}],\"count_weight\":0,\"column\":0,\"flags\":null}]";
+    struct range one;
+    struct pack it;
+    size_t degree = 9;
+    make_range(&one);
+    one.nodes[2].number = VOLGWAIN_MODULUS;
+    check(volgwain_koala_bear_degrees(&one.tables, &degree, 1, &one.refusal, one.text, sizeof one.text)
+                  == VOLGWAIN_OK
+              && degree == 3,
+        "the degree of two tuples over KoalaBear");
+    check(volgwain_degrees(&one.tables, &degree, 1, &one.refusal, one.text, sizeof one.text)
+              == VOLGWAIN_BAD_TABLE,
+        "a constant that is none over BabyBear");
+    make_pack(&it);
+    it.nodes[3].number = VOLGWAIN_MODULUS;
+    check(volgwain_koala_bear_pack(&it.tables, 3, it.packed_nodes, 10, it.packed_tuples, 5, it.packed_names,
+              4, it.packed_records, 4, &it.sizes, &it.refusal, it.text, sizeof it.text)
+                  == VOLGWAIN_OK
+              && are_sizes(&it.sizes, 9, 4, 2, 3)
+              && is_node(&it.packed_nodes[8], VOLGWAIN_CONSTANT, VOLGWAIN_MODULUS, 0),
+        "lookups packed over KoalaBear");
+    make_pack(&it);
+    check(volgwain_koala_bear_read_json(json, strlen(json), it.packed_nodes, 10, it.packed_tuples, 5,
+              it.packed_names, 4, it.packed_records, 4, &it.sizes, &it.refusal, it.text, sizeof it.text)
+                  == VOLGWAIN_OK
+              && are_sizes(&it.sizes, 1, 1, 0, 1)
+              && is_node(&it.packed_nodes[0], VOLGWAIN_CONSTANT, VOLGWAIN_MODULUS, 0),
+        "JSON over KoalaBear");
+    check(volgwain_koala_bear_read_json(large, strlen(large), it.packed_nodes, 10, it.packed_tuples, 5,
+              it.packed_names, 4, it.packed_records, 4, &it.sizes, &it.refusal, it.text, sizeof it.text)
+              == VOLGWAIN_BAD_TEXT,
+        "JSON with the modulus of KoalaBear");
+    check(read_json(&it, json, strlen(json)) == VOLGWAIN_BAD_TEXT, "JSON with the modulus of BabyBear");
+}
+
 /* ---- memory that runs out ---- */
 
 static uint32_t try_generate(void)
@@ -2355,6 +2683,9 @@ static void check_stack(size_t kilobytes, void *(*run)(void *))
 int main(void)
 {
     check_sizes();
+    check_abi();
+    check_null_airs();
+    check_null_batches();
     check_generation();
     check_proving();
     check_air_by_air();
@@ -2375,6 +2706,10 @@ int main(void)
     check_refused_rows();
     check_refused_witness_rows();
     check_shifts();
+    check_koala_proofs();
+    check_koala_plans();
+    check_koala_airs();
+    check_koala_tables();
     check_chunks();
     check(live == 0, "nothing is leaked");
     make_middle(&accepted);

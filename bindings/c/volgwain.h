@@ -1,26 +1,27 @@
 /* Volgwain for C: the calls of a LogUp lookup layer over BabyBear, the integers modulo
    2013265921 = 15 * 2^27 + 1, with challenges in its quartic extension, the polynomials modulo
-   X^4 - 11. C99 and C++17. The library is static: link liblookup_c.a and the kit's liblibc_c.a, which
-   calls malloc, realloc and free.
+   X^4 - 11; and each of them over KoalaBear, by a name of its own, at the end. C99 and C++17. The
+   library is static: link liblookup_c.a and the kit's liblibc_c.a, which calls malloc, realloc and free.
 
    For every call:
 
    - Memory. No memory and no handle is handed over. A call reads what its const pointers point to, and
      writes into the arrays of its caller. It frees all that it allocates before it returns, and keeps no
      pointer.
-   - Pointers. No pointer may be NULL, also where a length is 0. A length counts items, and not bytes. Each
-     array that a call writes must be initialised, and must not overlap any other argument; those that it
-     reads may overlap one another.
-   - Answers. A call returns 0, or the code of a refusal, and fills *refusal in both cases. A refused call
-     leaves all else that it would write as it was, but for `text`. In a call over one AIR `air` is 0, also
-     in the text.
+   - Pointers. A pointer to an array may be NULL where the length of the array is 0. That this changes
+     nothing is only tested: what is proved speaks of pointers that are not NULL. No other pointer may be
+     NULL. A length counts items, and not bytes. Each array that a call writes must be initialised, and must
+     not overlap any other argument; those that it reads may overlap one another.
+   - Answers. A call returns 0, or the code of a refusal, and fills *refusal in both cases. GCC and clang
+     warn where what it returns is not looked at. A refused call leaves all else that it would write as it
+     was, but for `text`. In a call over one AIR `air` is 0, also in the text.
    - Order. Each call lists its codes from the first test to the last; code 1 may come at any point. That a
      refusal is true of the arguments, and names the first record, number, AIR or row of its kind, is
      proved. The order of the codes is only tested, but for those that one call of the library tests for.
    - Texts. `text` gets what a refusal says, in UTF-8 and without a closing zero: its first bytes, as many
      as there is room for, so the cut may split a character. `refusal->text_length` is the length of the
      whole in bytes, and 0 where nothing was refused.
-   - Stack. A call needs at most 256 KB of it, and volgwain_read_json 384 KB.
+   - Stack. A call needs at most 256 KB of it, and one that reads JSON 384 KB.
    - Threads. Calls may run at once, as long as what one of them writes no other reads or writes.
      malloc and its kin have to allow that. No call from a signal handler. */
 #ifndef VOLGWAIN_H
@@ -33,8 +34,37 @@
 extern "C" {
 #endif
 
-/* Numbers of the base field are uint32_t below the modulus. */
+/* ---- the interface ---- */
+
+/* The number of the interface that this header declares. It changes with each struct, call or number here
+   that changes. A library has it in the name of a call, which every program that includes this header asks
+   its linker for: so an archive of another interface does not link. */
+#define VOLGWAIN_ABI 1
+
+/* Returns 1. */
+uint32_t volgwain_abi_1(void);
+
+#ifdef __GNUC__
+#ifdef __has_attribute
+#if __has_attribute(retain)
+__attribute__((retain)) /* also where sections that nothing reads are removed */
+#endif
+#endif
+__attribute__((used)) static uint32_t (*const volgwain_abi)(void) = volgwain_abi_1;
+#endif
+
+/* Stands before each call whose answer has to be looked at. */
+#ifdef __GNUC__
+#define VOLGWAIN_MUST_CHECK __attribute__((warn_unused_result))
+#else
+#define VOLGWAIN_MUST_CHECK
+#endif
+
+/* ---- numbers ---- */
+
+/* Numbers of the base field are uint32_t below the modulus: of BabyBear, and of KoalaBear in its calls. */
 #define VOLGWAIN_MODULUS 2013265921u
+#define VOLGWAIN_KOALA_BEAR_MODULUS 2130706433u
 
 /* The deepest expression, and the most nodes of one list of expressions, that are read. */
 #define VOLGWAIN_MOST_DEPTH 1024
@@ -219,7 +249,8 @@ struct volgwain_refusal {
 
    Refuses, in this order: 2, 5 and 3 of a trace, 3 of the challenges, 6, 7, 4 of the challenges, the first
    of 8, 9 and 10 in the order row, lookup, and 4 of the auxiliary trace. Or 1. */
-uint32_t volgwain_generate(const struct volgwain_tables *tables, const struct volgwain_traces *traces,
+VOLGWAIN_MUST_CHECK uint32_t volgwain_generate(const struct volgwain_tables *tables,
+    const struct volgwain_traces *traces,
     const struct volgwain_element *challenges, size_t challenges_length,
     struct volgwain_element *auxiliary, size_t auxiliary_length,
     struct volgwain_terminal *terminal,
@@ -230,7 +261,7 @@ uint32_t volgwain_generate(const struct volgwain_tables *tables, const struct vo
    degrees: one for each lookup.
 
    Refuses, in this order: 2, 11, 25 and 4 of the degrees. Or 1. */
-uint32_t volgwain_degrees(const struct volgwain_tables *tables,
+VOLGWAIN_MUST_CHECK uint32_t volgwain_degrees(const struct volgwain_tables *tables,
     size_t *degrees, size_t degrees_length,
     struct volgwain_refusal *refusal, char *text, size_t text_size);
 
@@ -259,7 +290,7 @@ struct volgwain_table_sizes {
 
    Refuses, in this order: 2, 11, 13 of a bus, 24 or 25 where a lookup is joined, 2 with part 8 of a packed
    lookup, whose index `lookup` then is, and 4 of the nodes, tuples, names and records. Or 1. */
-uint32_t volgwain_pack(const struct volgwain_tables *tables, size_t max_degree,
+VOLGWAIN_MUST_CHECK uint32_t volgwain_pack(const struct volgwain_tables *tables, size_t max_degree,
     struct volgwain_node *nodes, size_t nodes_length,
     struct volgwain_span *tuples, size_t tuples_length,
     uint8_t *names, size_t names_length,
@@ -268,7 +299,9 @@ uint32_t volgwain_pack(const struct volgwain_tables *tables, size_t max_degree,
     struct volgwain_refusal *refusal, char *text, size_t text_size);
 
 /* Reads the lookups of an AIR from JSON, a list of lookups as serde writes them, into tables. Numbers are
-   elements of the base field, and expressions nest as deep as JSON allows, some hundred levels.
+   elements of the base field, and expressions nest as deep as JSON allows, some hundred levels. The JSON of
+   the Rust crate p3-lookup is another one: its expressions have other nodes, and its constants may be in
+   Montgomery form, which is not told from other numbers.
 
    nodes, tuples, names, records: the tables of the lookups that were read. Each array must be at least as
    long as what is written, and sizes says how much that is; what is past that stays as it was. There are
@@ -277,7 +310,7 @@ uint32_t volgwain_pack(const struct volgwain_tables *tables, size_t max_degree,
    Which lookups a text says is only tested. Refuses, in this order: 27, 11, 2 with parts 6, 7 and 8 of a
    lookup of the text, and 4 of the nodes, tuples, names and records. Or 1, also where memory runs out while
    the text is read. */
-uint32_t volgwain_read_json(const char *json, size_t json_length,
+VOLGWAIN_MUST_CHECK uint32_t volgwain_read_json(const char *json, size_t json_length,
     struct volgwain_node *nodes, size_t nodes_length,
     struct volgwain_span *tuples, size_t tuples_length,
     uint8_t *names, size_t names_length,
@@ -315,7 +348,7 @@ struct volgwain_plan_sizes {
    ids: one for each lookup, AIR by AIR.
 
    Refuses, in this order: 2 and 11 of an AIR, 12, 13, 14, 15, and 4 of the ids. Or 1. */
-uint32_t volgwain_plan(const struct volgwain_air *airs, size_t airs_length,
+VOLGWAIN_MUST_CHECK uint32_t volgwain_plan(const struct volgwain_air *airs, size_t airs_length,
     size_t *ids, size_t ids_length,
     struct volgwain_plan_sizes *sizes,
     struct volgwain_refusal *refusal, char *text, size_t text_size);
@@ -330,7 +363,7 @@ uint32_t volgwain_plan(const struct volgwain_air *airs, size_t airs_length,
 
    Refuses, in this order: 2, 5 and 3 of a trace, 3 of alpha and then beta, 4 of the ids, 3 of the sizes, 3 of
    an id, 6, 7, the first of 8, 9 and 10 in the order row, lookup, and 4 of the auxiliary trace. Or 1. */
-uint32_t volgwain_generate_by_ids(const struct volgwain_tables *tables,
+VOLGWAIN_MUST_CHECK uint32_t volgwain_generate_by_ids(const struct volgwain_tables *tables,
     const struct volgwain_traces *traces,
     const size_t *ids, size_t ids_length, const struct volgwain_plan_sizes *sizes,
     const struct volgwain_element *alpha, const struct volgwain_element *beta,
@@ -355,7 +388,7 @@ uint32_t volgwain_generate_by_ids(const struct volgwain_tables *tables,
    Refuses, in this order: 2 and 11 of an AIR, 12, 13, 14, 15, 5 and 3 of traces, 3 of alpha and then beta,
    4 of the number of traces, 16, the first of 8, 9 and 10 in the order AIR, row, lookup, and 4 of the
    auxiliary traces and then the terminals. Or 1. */
-uint32_t volgwain_prove(const struct volgwain_air *airs, size_t airs_length,
+VOLGWAIN_MUST_CHECK uint32_t volgwain_prove(const struct volgwain_air *airs, size_t airs_length,
     const struct volgwain_traces *traces, size_t traces_length,
     const struct volgwain_element *alpha, const struct volgwain_element *beta,
     struct volgwain_element *auxiliary, size_t auxiliary_length,
@@ -370,7 +403,7 @@ uint32_t volgwain_prove(const struct volgwain_air *airs, size_t airs_length,
    Returns 0 exactly if it is accepted, unless memory runs out. Refuses, in this order: what volgwain_prove
    does up to 3 of beta; 5 and 3 of what the witness has for an AIR; 4 of the number of traces; 16; 4 of the
    number of AIRs in the witness; AIR by AIR 17, 18, 19 and 20; and 21. Or 1. */
-uint32_t volgwain_verify(const struct volgwain_air *airs, size_t airs_length,
+VOLGWAIN_MUST_CHECK uint32_t volgwain_verify(const struct volgwain_air *airs, size_t airs_length,
     const struct volgwain_traces *traces, size_t traces_length,
     const struct volgwain_element *alpha, const struct volgwain_element *beta,
     const struct volgwain_air_witness *witness, size_t witness_length,
@@ -402,7 +435,7 @@ struct volgwain_counts {
 
    Refuses, in this order: what volgwain_prove does up to 5 and 3 of traces, 4 of the number of traces, 16,
    9 or 10 of flags in the order AIR, row, lookup, and 23. Or 1. */
-uint32_t volgwain_soundness_count(const struct volgwain_air *airs, size_t airs_length,
+VOLGWAIN_MUST_CHECK uint32_t volgwain_soundness_count(const struct volgwain_air *airs, size_t airs_length,
     const struct volgwain_traces *traces, size_t traces_length,
     struct volgwain_counts *counts,
     struct volgwain_refusal *refusal, char *text, size_t text_size);
@@ -423,7 +456,7 @@ struct volgwain_height_counts {
    witness is accepted at no more than accepting_alphas alphas, whoever makes it.
 
    Refuses, in this order: 2 and 11 of an AIR, 12, 13, 14, 15 and 23. Or 1. */
-uint32_t volgwain_soundness_of_heights(const struct volgwain_air *airs, size_t airs_length,
+VOLGWAIN_MUST_CHECK uint32_t volgwain_soundness_of_heights(const struct volgwain_air *airs, size_t airs_length,
     struct volgwain_height_counts *counts,
     struct volgwain_refusal *refusal, char *text, size_t text_size);
 
@@ -441,7 +474,7 @@ struct volgwain_grid {
 
    Refuses, in this order: what volgwain_prove does up to 5 and 3 of traces, 3 of the alphas and then the
    betas, 4 of the number of traces, 16, 22, 9 or 10 of flags in the order AIR, row, lookup, and 23. Or 1. */
-uint32_t volgwain_grid_count(const struct volgwain_air *airs, size_t airs_length,
+VOLGWAIN_MUST_CHECK uint32_t volgwain_grid_count(const struct volgwain_air *airs, size_t airs_length,
     const struct volgwain_traces *traces, size_t traces_length,
     const struct volgwain_element *alphas, size_t alphas_length,
     const struct volgwain_element *betas, size_t betas_length,
@@ -454,7 +487,7 @@ uint32_t volgwain_grid_count(const struct volgwain_air *airs, size_t airs_length
    Refuses, in this order: 4 of the number of traces, 2 and 11 of an AIR, 5 and 3 of traces, 6 and 7 of an
    AIR, and 26 at the first local lookup or bus with a tuple that does not balance. Its text names the
    tuple, by how much it does not, and each place where it is sent. Or 1. */
-uint32_t volgwain_debug_check(const struct volgwain_tables *airs, size_t airs_length,
+VOLGWAIN_MUST_CHECK uint32_t volgwain_debug_check(const struct volgwain_tables *airs, size_t airs_length,
     const struct volgwain_traces *traces, size_t traces_length,
     struct volgwain_refusal *refusal, char *text, size_t text_size);
 
@@ -484,7 +517,8 @@ struct volgwain_rows {
    end, and end not above the height; 4 of the rows, where around has another height than there are rows around
    the range; the first of 8, 9 and 10 on the rows of the range, in the order row, lookup, where row is that of
    the whole trace; and 4 of the auxiliary trace. Or 1. */
-uint32_t volgwain_generate_rows(const struct volgwain_tables *tables, const struct volgwain_traces *around,
+VOLGWAIN_MUST_CHECK uint32_t volgwain_generate_rows(const struct volgwain_tables *tables,
+    const struct volgwain_traces *around,
     const struct volgwain_rows *rows,
     const size_t *ids, size_t ids_length, const struct volgwain_plan_sizes *sizes,
     const struct volgwain_element *alpha, const struct volgwain_element *beta,
@@ -497,7 +531,7 @@ uint32_t volgwain_generate_rows(const struct volgwain_tables *tables, const stru
    cells: rows of `width` cells each. With one cell and a width of 1 the call adds two elements.
 
    Refuses, in this order: 3 of the offset, 5 of the auxiliary trace, and 3 of it. It asks for no memory. */
-uint32_t volgwain_shift(struct volgwain_element *cells, size_t cells_length, size_t width,
+VOLGWAIN_MUST_CHECK uint32_t volgwain_shift(struct volgwain_element *cells, size_t cells_length, size_t width,
     const struct volgwain_element *offset,
     struct volgwain_refusal *refusal, char *text, size_t text_size);
 
@@ -514,11 +548,104 @@ uint32_t volgwain_shift(struct volgwain_element *cells, size_t cells_length, siz
    Returns 0 exactly if they are zero, unless memory runs out. Refuses, in this order: what
    volgwain_generate_rows does up to 4 of the rows; 5 and 3 of what the witness has; 17, 18 and 19; and 20, at
    the first row of the range on which a constraint is not zero, under its number in the whole trace. Or 1. */
-uint32_t volgwain_verify_rows(const struct volgwain_tables *tables, const struct volgwain_traces *around,
+VOLGWAIN_MUST_CHECK uint32_t volgwain_verify_rows(const struct volgwain_tables *tables,
+    const struct volgwain_traces *around,
     const struct volgwain_rows *rows,
     const size_t *ids, size_t ids_length, const struct volgwain_plan_sizes *sizes,
     const struct volgwain_element *alpha, const struct volgwain_element *beta,
     const struct volgwain_air_witness *witness,
+    struct volgwain_refusal *refusal, char *text, size_t text_size);
+
+/* ---- KoalaBear ---- */
+
+/* The same calls over KoalaBear, the integers modulo 2130706433 = 127 * 2^24 + 1, with challenges in the
+   polynomials modulo X^4 - 3.
+
+   Each is the call of its name without koala_bear: what is said there of arguments, answers, refusals and their
+   order, and of memory, is said here. The modulus is VOLGWAIN_KOALA_BEAR_MODULUS, in tables, texts, traces,
+   challenges and bounds on heights alike. What one field's calls write is not for those of the other. */
+VOLGWAIN_MUST_CHECK uint32_t volgwain_koala_bear_plan(const struct volgwain_air *airs, size_t airs_length,
+    size_t *ids, size_t ids_length,
+    struct volgwain_plan_sizes *sizes,
+    struct volgwain_refusal *refusal, char *text, size_t text_size);
+VOLGWAIN_MUST_CHECK uint32_t volgwain_koala_bear_prove(const struct volgwain_air *airs, size_t airs_length,
+    const struct volgwain_traces *traces, size_t traces_length,
+    const struct volgwain_element *alpha, const struct volgwain_element *beta,
+    struct volgwain_element *auxiliary, size_t auxiliary_length,
+    struct volgwain_terminal *terminals, size_t terminals_length,
+    struct volgwain_refusal *refusal, char *text, size_t text_size);
+VOLGWAIN_MUST_CHECK uint32_t volgwain_koala_bear_verify(const struct volgwain_air *airs, size_t airs_length,
+    const struct volgwain_traces *traces, size_t traces_length,
+    const struct volgwain_element *alpha, const struct volgwain_element *beta,
+    const struct volgwain_air_witness *witness, size_t witness_length,
+    struct volgwain_refusal *refusal, char *text, size_t text_size);
+VOLGWAIN_MUST_CHECK uint32_t volgwain_koala_bear_debug_check(const struct volgwain_tables *airs,
+    size_t airs_length,
+    const struct volgwain_traces *traces, size_t traces_length,
+    struct volgwain_refusal *refusal, char *text, size_t text_size);
+VOLGWAIN_MUST_CHECK uint32_t volgwain_koala_bear_soundness_count(const struct volgwain_air *airs,
+    size_t airs_length,
+    const struct volgwain_traces *traces, size_t traces_length,
+    struct volgwain_counts *counts,
+    struct volgwain_refusal *refusal, char *text, size_t text_size);
+VOLGWAIN_MUST_CHECK uint32_t volgwain_koala_bear_soundness_of_heights(const struct volgwain_air *airs,
+    size_t airs_length,
+    struct volgwain_height_counts *counts,
+    struct volgwain_refusal *refusal, char *text, size_t text_size);
+VOLGWAIN_MUST_CHECK uint32_t volgwain_koala_bear_grid_count(const struct volgwain_air *airs, size_t airs_length,
+    const struct volgwain_traces *traces, size_t traces_length,
+    const struct volgwain_element *alphas, size_t alphas_length,
+    const struct volgwain_element *betas, size_t betas_length,
+    struct volgwain_grid *grid,
+    struct volgwain_refusal *refusal, char *text, size_t text_size);
+VOLGWAIN_MUST_CHECK uint32_t volgwain_koala_bear_generate(const struct volgwain_tables *tables,
+    const struct volgwain_traces *traces,
+    const struct volgwain_element *challenges, size_t challenges_length,
+    struct volgwain_element *auxiliary, size_t auxiliary_length,
+    struct volgwain_terminal *terminal,
+    struct volgwain_refusal *refusal, char *text, size_t text_size);
+VOLGWAIN_MUST_CHECK uint32_t volgwain_koala_bear_generate_by_ids(const struct volgwain_tables *tables,
+    const struct volgwain_traces *traces,
+    const size_t *ids, size_t ids_length, const struct volgwain_plan_sizes *sizes,
+    const struct volgwain_element *alpha, const struct volgwain_element *beta,
+    struct volgwain_element *auxiliary, size_t auxiliary_length,
+    struct volgwain_terminal *terminal,
+    struct volgwain_refusal *refusal, char *text, size_t text_size);
+VOLGWAIN_MUST_CHECK uint32_t volgwain_koala_bear_generate_rows(const struct volgwain_tables *tables,
+    const struct volgwain_traces *around,
+    const struct volgwain_rows *rows,
+    const size_t *ids, size_t ids_length, const struct volgwain_plan_sizes *sizes,
+    const struct volgwain_element *alpha, const struct volgwain_element *beta,
+    struct volgwain_element *auxiliary, size_t auxiliary_length,
+    struct volgwain_element *sum,
+    struct volgwain_refusal *refusal, char *text, size_t text_size);
+VOLGWAIN_MUST_CHECK uint32_t volgwain_koala_bear_shift(struct volgwain_element *cells, size_t cells_length,
+    size_t width,
+    const struct volgwain_element *offset,
+    struct volgwain_refusal *refusal, char *text, size_t text_size);
+VOLGWAIN_MUST_CHECK uint32_t volgwain_koala_bear_verify_rows(const struct volgwain_tables *tables,
+    const struct volgwain_traces *around,
+    const struct volgwain_rows *rows,
+    const size_t *ids, size_t ids_length, const struct volgwain_plan_sizes *sizes,
+    const struct volgwain_element *alpha, const struct volgwain_element *beta,
+    const struct volgwain_air_witness *witness,
+    struct volgwain_refusal *refusal, char *text, size_t text_size);
+VOLGWAIN_MUST_CHECK uint32_t volgwain_koala_bear_degrees(const struct volgwain_tables *tables,
+    size_t *degrees, size_t degrees_length,
+    struct volgwain_refusal *refusal, char *text, size_t text_size);
+VOLGWAIN_MUST_CHECK uint32_t volgwain_koala_bear_pack(const struct volgwain_tables *tables, size_t max_degree,
+    struct volgwain_node *nodes, size_t nodes_length,
+    struct volgwain_span *tuples, size_t tuples_length,
+    uint8_t *names, size_t names_length,
+    struct volgwain_record *records, size_t records_length,
+    struct volgwain_table_sizes *sizes,
+    struct volgwain_refusal *refusal, char *text, size_t text_size);
+VOLGWAIN_MUST_CHECK uint32_t volgwain_koala_bear_read_json(const char *json, size_t json_length,
+    struct volgwain_node *nodes, size_t nodes_length,
+    struct volgwain_span *tuples, size_t tuples_length,
+    uint8_t *names, size_t names_length,
+    struct volgwain_record *records, size_t records_length,
+    struct volgwain_table_sizes *sizes,
     struct volgwain_refusal *refusal, char *text, size_t text_size);
 
 #ifdef __cplusplus

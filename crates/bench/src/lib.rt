@@ -10,42 +10,43 @@ mod debug;
 mod debug_shapes;
 mod fields;
 mod generation;
-mod goldilocks_fields;
 mod packing;
 mod plans;
 mod shapes;
 
 use bench_shapes::{REFUSED, generate};
+use field::{BabyBear, BabyBear4};
+use goldilocks::{Goldilocks, Goldilocks2};
 use std::alloc::Global;
 
 /// Sets each number `x` to `x * a + b`, `rounds` times.
 #[unsafe(no_mangle)]
 pub extern "C" fn field_base_multiply_add(alloc: Global, numbers: &[u32], rounds: u32) -> u32 {
-    fields::base_multiply_add(alloc, numbers, rounds).unwrap_or(REFUSED)
+    fields::base_multiply_add::<BabyBear, BabyBear4>(alloc, numbers, rounds).unwrap_or(REFUSED)
 }
 
 /// As `field_base_multiply_add`, over the quartic extension, with an element for each number.
 #[unsafe(no_mangle)]
 pub extern "C" fn field_extension_multiply_add(alloc: Global, numbers: &[u32], rounds: u32) -> u32 {
-    fields::extension_multiply_add(alloc, numbers, rounds).unwrap_or(REFUSED)
+    fields::extension_multiply_add::<BabyBear, BabyBear4>(alloc, numbers, rounds).unwrap_or(REFUSED)
 }
 
 /// Sets each nonzero element to its inverse, `rounds` times.
 #[unsafe(no_mangle)]
 pub extern "C" fn field_extension_inverse(alloc: Global, numbers: &[u32], rounds: u32) -> u32 {
-    fields::extension_inverse(alloc, numbers, rounds).unwrap_or(REFUSED)
+    fields::extension_inverse::<BabyBear, BabyBear4>(alloc, numbers, rounds).unwrap_or(REFUSED)
 }
 
 /// Inverts all nonzero elements at once, `rounds` times, and adds up all inverses.
 #[unsafe(no_mangle)]
 pub extern "C" fn field_batch_inversion(alloc: Global, numbers: &[u32], rounds: u32) -> u32 {
-    fields::batch_inversion(alloc, numbers, rounds).unwrap_or(REFUSED)
+    fields::batch_inversion::<BabyBear, BabyBear4>(alloc, numbers, rounds).unwrap_or(REFUSED)
 }
 
 /// As `field_base_multiply_add`, over `Goldilocks`, with elements that fill 64 bits.
 #[unsafe(no_mangle)]
 pub extern "C" fn goldilocks_base_multiply_add(alloc: Global, numbers: &[u32], rounds: u32) -> u32 {
-    goldilocks_fields::base_multiply_add(alloc, numbers, rounds).unwrap_or(REFUSED)
+    fields::base_multiply_add::<Goldilocks, Goldilocks2>(alloc, numbers, rounds).unwrap_or(REFUSED)
 }
 
 /// The same over the quadratic extension, with an element for each number.
@@ -55,19 +56,21 @@ pub extern "C" fn goldilocks_extension_multiply_add(
     numbers: &[u32],
     rounds: u32,
 ) -> u32 {
-    goldilocks_fields::extension_multiply_add(alloc, numbers, rounds).unwrap_or(REFUSED)
+    fields::extension_multiply_add::<Goldilocks, Goldilocks2>(alloc, numbers, rounds).unwrap_or(
+        REFUSED,
+    )
 }
 
 /// Sets each nonzero element of that extension to its inverse, `rounds` times.
 #[unsafe(no_mangle)]
 pub extern "C" fn goldilocks_extension_inverse(alloc: Global, numbers: &[u32], rounds: u32) -> u32 {
-    goldilocks_fields::extension_inverse(alloc, numbers, rounds).unwrap_or(REFUSED)
+    fields::extension_inverse::<Goldilocks, Goldilocks2>(alloc, numbers, rounds).unwrap_or(REFUSED)
 }
 
 /// Inverts all nonzero elements of it at once, `rounds` times, and adds up all inverses.
 #[unsafe(no_mangle)]
 pub extern "C" fn goldilocks_batch_inversion(alloc: Global, numbers: &[u32], rounds: u32) -> u32 {
-    goldilocks_fields::batch_inversion(alloc, numbers, rounds).unwrap_or(REFUSED)
+    fields::batch_inversion::<Goldilocks, Goldilocks2>(alloc, numbers, rounds).unwrap_or(REFUSED)
 }
 
 /// Generates the auxiliary trace of a shape over `BabyBear` and `BabyBear4`, `rounds` times. The main

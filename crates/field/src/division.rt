@@ -2,8 +2,6 @@
 ghost use Rattle.std.specs.Prelude.{◌≡◌, OnOk, replicate};
 ghost use Rattle.field.specs.Division.{AreEmptyLists};
 
-use crate::lanes::Lanes;
-use crate::planes::NormParts;
 use std::alloc::{AllocError, Global};
 
 /// The lists that a division of a list works in. They grow only where a longer list than before is
@@ -11,9 +9,9 @@ use std::alloc::{AllocError, Global};
 #[derive(Drop)]
 pub struct DivisionLists<K> {
     pub(crate) inverses: Vec<K>,
-    pub(crate) parts: Vec<NormParts>,
-    pub(crate) norms: Vec<Lanes>,
-    pub(crate) products: Vec<Lanes>,
+    pub(crate) low: Vec<K>,
+    pub(crate) high: Vec<K>,
+    pub(crate) norms: Vec<K>,
 }
 
 impl<K> DivisionLists<K> {
@@ -23,9 +21,9 @@ impl<K> DivisionLists<K> {
     {
         DivisionLists {
             inverses: Vec::new(alloc),
-            parts: Vec::new(alloc),
+            low: Vec::new(alloc),
+            high: Vec::new(alloc),
             norms: Vec::new(alloc),
-            products: Vec::new(alloc),
         }
     }
 }

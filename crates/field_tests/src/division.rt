@@ -2,8 +2,8 @@ ghost use Rattle.std.specs.Prelude.{◌≡◌, ◌≢◌, IfOk, All, length};
 
 use crate::cases::{holds, holds_at};
 use field::{
-    BabyBear, BabyBear4, DivisionLists, Domain, ExtensionField, F2, F7, Field, InverseCount,
-    PrimeCharacteristicRing,
+    BabyBearParameters, DivisionLists, Domain, ExtensionField, F2, F7, Field, InverseCount,
+    KoalaBearParameters, MontyField31, MontyQuartic, PrimeCharacteristicRing, QuarticParameters,
 };
 use goldilocks::{Goldilocks, Goldilocks2};
 use std::alloc::{AllocError, Global};
@@ -88,31 +88,54 @@ const LENGTHS: [usize; 24] = [
 ];
 
 /// Elements with all four coefficients, the numerators' first ones in the base field.
-fn quartics(alloc: Global, n: u32, embedded: u32) -> Result<Vec<BabyBear4>, AllocError> {
+fn quartics<const P: u32, K: QuarticParameters<P>>(
+    alloc: Global,
+    n: u32,
+    embedded: u32,
+) -> Result<Vec<MontyQuartic<P, K>>, AllocError> {
+    let zero = MontyField31::ZERO;
     let mut list = Vec::with_capacity(alloc, n as usize)?;
     for i in 0..n {
-        let first = BabyBear::new(i) + BabyBear::new(2);
+        let first = MontyField31::new(i) + MontyField31::new(2);
         if i < embedded {
-            list.push(BabyBear4::new([first, BabyBear::ZERO, BabyBear::ZERO, BabyBear::ZERO]))?;
+            list.push(MontyQuartic::new([first, zero, zero, zero]))?;
         } else {
             let square = first * first;
-            list.push(BabyBear4::new([square, first, BabyBear::new(5), square * first]))?;
+            list.push(MontyQuartic::new([square, first, MontyField31::new(5), square * first]))?;
         }
     }
     Ok(list)
 }
 
+/// Whether lists of such elements divide, with this many numerators in the base field.
+fn quartic_lists_divide<const P: u32, K: QuarticParameters<P>>(
+    alloc: Global,
+    embedded: u32,
+) -> bool {
+    match (
+        quartics::<P, K>(alloc, 1025, embedded),
+        quartics::<P, K>(alloc, 1025, 0),
+    ) {
+        (Ok(numerators), Ok(denominators)) => {
+            all_divide::<MontyField31<P, K>, MontyQuartic<P, K>>(
+                alloc,
+                &numerators,
+                &denominators,
+                &LENGTHS,
+            )
+        }
+        _ => false,
+    }
+}
+
 #[test]
-fn quartic_lists_divide(rt: HostRuntime) {
+fn lists_over_quartic_extensions_divide(rt: HostRuntime) {
     let alloc = rt.alloc();
     for embedded in [0, 4, 9, 1025] {
-        let held = match (quartics(alloc, 1025, embedded), quartics(alloc, 1025, 0)) {
-            (Ok(numerators), Ok(denominators)) => {
-                all_divide::<BabyBear, BabyBear4>(alloc, &numerators, &denominators, &LENGTHS)
-            }
-            _ => false,
-        };
-        holds_at(&rt, "embedded numerators", embedded, held);
+        let held = quartic_lists_divide::<2_013_265_921, BabyBearParameters>(alloc, embedded);
+        holds_at(&rt, "BabyBear4, embedded numerators", embedded, held);
+        let held = quartic_lists_divide::<2_130_706_433, KoalaBearParameters>(alloc, embedded);
+        holds_at(&rt, "KoalaBear4, embedded numerators", embedded, held);
     }
 }
 

@@ -1,5 +1,5 @@
 use crate::cases::{holds, holds_for};
-use field::{BabyBear, BabyBear4, F2, F7};
+use field::{BabyBear, BabyBear4, F2, F7, KoalaBear, KoalaBear4};
 use goldilocks::{Goldilocks, Goldilocks2};
 use serde::{Deserialize, DeserializeOwned, Serialize};
 use serde_json::Value;
@@ -52,6 +52,10 @@ const OF_BABY_BEAR: [&str; 4] = ["0", "1", "123", "2013265920"];
 
 const OF_BABY_BEAR4: [&str; 1] = ["[1,2013265920,0,4]"];
 
+const OF_KOALA_BEAR: [&str; 2] = ["2013265921", "2130706432"];
+
+const OF_KOALA_BEAR4: [&str; 1] = ["[1,2130706432,0,4]"];
+
 const OF_GOLDILOCKS: [&str; 4] = ["0", "1", "4294967296", "18446744069414584320"];
 
 const OF_GOLDILOCKS2: [&str; 2] = ["[0,0]", "[1,18446744069414584320]"];
@@ -63,6 +67,8 @@ fn each_value_goes_round(rt: HostRuntime) {
     all_go_round::<F7>(&rt, alloc, "F7", &OF_F7);
     all_go_round::<BabyBear>(&rt, alloc, "BabyBear", &OF_BABY_BEAR);
     all_go_round::<BabyBear4>(&rt, alloc, "BabyBear4", &OF_BABY_BEAR4);
+    all_go_round::<KoalaBear>(&rt, alloc, "KoalaBear", &OF_KOALA_BEAR);
+    all_go_round::<KoalaBear4>(&rt, alloc, "KoalaBear4", &OF_KOALA_BEAR4);
     all_go_round::<Goldilocks>(&rt, alloc, "Goldilocks", &OF_GOLDILOCKS);
     all_go_round::<Goldilocks2>(&rt, alloc, "Goldilocks2", &OF_GOLDILOCKS2);
 }
@@ -145,6 +151,7 @@ fn other_values_are_refused(rt: HostRuntime) {
     all_are_refused::<F7>(&rt, alloc, "F7", &NOT_OF_F7);
     all_are_refused::<BabyBear>(&rt, alloc, "BabyBear", &NOT_OF_BABY_BEAR);
     all_are_refused::<BabyBear4>(&rt, alloc, "BabyBear4", &NOT_OF_BABY_BEAR4);
+    all_are_refused::<KoalaBear>(&rt, alloc, "KoalaBear", &["2130706433"]);
     all_are_refused::<Goldilocks>(&rt, alloc, "Goldilocks", &NOT_OF_GOLDILOCKS);
     all_are_refused::<Goldilocks2>(&rt, alloc, "Goldilocks2", &NOT_OF_GOLDILOCKS2);
 }

@@ -24,6 +24,8 @@ mod inverter;
 #[cfg(test)]
 mod json;
 #[cfg(test)]
+mod koala_bear;
+#[cfg(test)]
 mod linear;
 #[cfg(test)]
 mod matrices;

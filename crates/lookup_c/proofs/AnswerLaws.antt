@@ -2,14 +2,14 @@
 use Rattle.std.proofs.Common.{◌≡◌, ◌≢◌, ◌∙◌, ℕ, Result, Err, ap}
 use Rattle.std.proofs.lemmas.Result.{err_from_is_err_and}
 use Rattle.std.specs.Result.{IsErrAnd}
-use Rattle.lookup_c.specs.Answers.{Answers}
+use Rattle.lookup_c.specs.CallAnswers.{CallAnswers}
 use Rattle.lookup_c.specs.Refusals.{IsRefusalOf, no_refusal}
 use Rattle.lookup_c.specs.declared.fault.Fault.{Fault}
 use Rattle.lookup_c.specs.declared.refusal.Refusal.{Refusal}
 
 module _ {code : ℕ} {refusal : Refusal} {Done : Type 0} {Refused : Fault → Type 0} where
   -- a call that does its work
-  pub accepted_answer : code ≡ refusal.code → code ≡ 0 → refusal ≡ no_refusal → Done → Answers code refusal Done Refused
+  pub accepted_answer : code ≡ refusal.code → code ≡ 0 → refusal ≡ no_refusal → Done → CallAnswers code refusal Done Refused
   accepted_answer code_is zero none done = record {
     code_is = code_is;
     no_refusal_is = λ _. none;
@@ -18,7 +18,7 @@ module _ {code : ℕ} {refusal : Refusal} {Done : Type 0} {Refused : Fault → T
   }
 
   -- a call that is refused
-  pub refused_answer : (fault : Fault) → code ≡ refusal.code → code ≢ 0 → IsRefusalOf fault refusal → Refused fault → Answers code refusal Done Refused
+  pub refused_answer : (fault : Fault) → code ≡ refusal.code → code ≢ 0 → IsRefusalOf fault refusal → Refused fault → CallAnswers code refusal Done Refused
   refused_answer fault code_is other is refused = record {
     code_is = code_is;
     no_refusal_is = λ zero. absurd (other zero);
@@ -28,7 +28,7 @@ module _ {code : ℕ} {refusal : Refusal} {Done : Type 0} {Refused : Fault → T
 
 -- what follows from what a call answers
 pub weaker_answer : {code : ℕ} {refusal : Refusal} {Done More : Type 0} {Refused Reasons : Fault → Type 0}
-    → Answers code refusal Done Refused → (Done → More) → ((fault : Fault) → Refused fault → Reasons fault) → Answers code refusal More Reasons
+    → CallAnswers code refusal Done Refused → (Done → More) → ((fault : Fault) → Refused fault → Reasons fault) → CallAnswers code refusal More Reasons
 weaker_answer answer more reasons = record {
   code_is = answer.code_is;
   no_refusal_is = answer.no_refusal_is;

@@ -3,46 +3,46 @@ use Rattle.std.proofs.Common.{◌≡◌, ◌∙◌, ◌∷◌, ◌++◌, ◌+◌
 use Rattle.std.proofs.lemmas.List.{map_push}
 use Rattle.std.proofs.lemmas.List.Elements.{All-map}
 use Rattle.std.proofs.lemmas.Result.{MatchResult-weaker}
+use Rattle.field.specs.Residue.{Residue}
 use Rattle.lists.proofs.Zips.{length-zipped, zipped_at, zipped_more}
 use Rattle.field.specs.Extension.{Extension}
 use Rattle.field.specs.Quartic.{Quartic}
 use Rattle.lookup.specs.declared.lookups.Lookups.{Lookups}
 use Rattle.lookup_debug.specs.Contributions.{AreFitting, IsTracedFitting, Traced, traced_of}
 use Rattle.lookup_debug.specs.declared.instance.LookupDebugInstance.{LookupDebugInstance}
-use Rattle.lookup_tables.specs.Nodes.{BabyBear}
 use Rattle.lookup_tables.specs.declared.tables.Tables.{Tables}
 use Rattle.lookup_tables.specs.declared.traces.ReadTraces.{ReadTraces}
 use Rattle.lookup_tables.specs.declared.traces.Traces.{Traces}
-use Rattle.lookup_c.specs.BatchTables.{AreBatchTraces}
-use Rattle.lookup_c.specs.DebugCheck.{AreTableSets, DebugChecksTables, ChecksTraced, IsCallRefusal, IsMisfitAt, IsMismatchRefusal, IsUnfitAmong, all_traced, traced_tables}
+use Rattle.lookup_c.specs.BatchTables.{AreTracesOfTables}
+use Rattle.lookup_c.specs.DebugCheck.{AreDebugSets, DebugChecksTables, DebugChecksTraced, IsDebugCheckRefusal, IsDebugMisfit, IsDebugMismatch, IsFirstDebugMisfit, all_debug_traced, debug_traced}
 use Rattle.lookup_c.specs.declared.fault.Fault.{Fault}
 use Rattle.expressions.proofs.FirstFaults.{first_fault}
 
-pub all_taken : (sets : List (Lookups BabyBear)) (traces : List ReadTraces) (n : ℕ) → length sets ≡ length traces → length sets ≤ n → length (all_traced sets traces) ≤ n
-all_taken sets traces n same all = omega (arith, length-zipped (λ t. traced_tables t.0 t.1) sets traces (sym same), all)
+pub all_taken : {F : Type 0} (sets : List (Lookups F)) (traces : List (ReadTraces F)) (n : ℕ) → length sets ≡ length traces → length sets ≤ n → length (all_debug_traced sets traces) ≤ n
+all_taken sets traces n same all = omega (arith, length-zipped (λ t. debug_traced t.0 t.1) sets traces (sym same), all)
 
-module _ (sets : List (Lookups BabyBear)) (traces : List ReadTraces) (i : ℕ) (s : Lookups BabyBear) (t : ReadTraces) (there : i < length sets) (same : length sets ≡ length traces) (s_is : s ≡ get_or sets i s) (t_is : t ≡ get_or traces i t) where
+module _ {F : Type 0} (sets : List (Lookups F)) (traces : List (ReadTraces F)) (i : ℕ) (s : Lookups F) (t : ReadTraces F) (there : i < length sets) (same : length sets ≡ length traces) (s_is : s ≡ get_or sets i s) (t_is : t ≡ get_or traces i t) where
   -- one AIR more
-  pub traced_next : (before after : List (LookupDebugInstance BabyBear)) (x : LookupDebugInstance BabyBear) → after ≡ before ++ x ∷ [] → traced_of x ≡ traced_tables s t
-      → map traced_of before ≡ take i (all_traced sets traces) → map traced_of after ≡ take (i + 1) (all_traced sets traces)
+  pub traced_next : (before after : List (LookupDebugInstance F)) (x : LookupDebugInstance F) → after ≡ before ++ x ∷ [] → traced_of x ≡ debug_traced s t
+      → map traced_of before ≡ take i (all_debug_traced sets traces) → map traced_of after ≡ take (i + 1) (all_debug_traced sets traces)
   traced_next before after x pushed is so_far =
-      ap (map traced_of) pushed ∙ map_push traced_of before x ∙ (λ k. so_far k ++ is k ∷ []) ∙ sym (zipped_more (λ p. traced_tables p.0 p.1) sets traces (sym same) i s t there s_is t_is)
+      ap (map traced_of) pushed ∙ map_push traced_of before x ∙ (λ k. so_far k ++ is k ∷ []) ∙ sym (zipped_more (λ p. debug_traced p.0 p.1) sets traces (sym same) i s t there s_is t_is)
 
   -- an AIR whose lookups do not fit its traces
-  pub unfit_there : (fault : Fault) (instances : List (LookupDebugInstance BabyBear)) → map traced_of instances ≡ take i (all_traced sets traces) → AreFitting instances
-      → IsMisfitAt i (traced_tables s t) fault → IsUnfitAmong (all_traced sets traces) fault
+  pub unfit_there : (fault : Fault) (instances : List (LookupDebugInstance F)) → map traced_of instances ≡ take i (all_debug_traced sets traces) → AreFitting instances
+      → IsDebugMisfit i (debug_traced s t) fault → IsFirstDebugMisfit (all_debug_traced sets traces) fault
   unfit_there fault instances are fit misfit =
-      first_fault IsTracedFitting (λ index traced. IsMisfitAt index traced fault) (all_traced sets traces) i (traced_tables s t) (omega (arith, there, length-zipped (λ p. traced_tables p.0 p.1) sets traces (sym same)))
-      (subst (λ (ts : List (Traced BabyBear)). All IsTracedFitting ts) are (All-map IsTracedFitting traced_of instances fit))
-      (subst (λ (x : Traced BabyBear). IsMisfitAt i x fault) (zipped_at (λ p. traced_tables p.0 p.1) sets traces (sym same) i s t there s_is t_is) misfit)
+      first_fault IsTracedFitting (λ index traced. IsDebugMisfit index traced fault) (all_debug_traced sets traces) i (debug_traced s t) (omega (arith, there, length-zipped (λ p. debug_traced p.0 p.1) sets traces (sym same)))
+      (subst (λ (ts : List (Traced F)). All IsTracedFitting ts) are (All-map IsTracedFitting traced_of instances fit))
+      (subst (λ (x : Traced F). IsDebugMisfit i x fault) (zipped_at (λ p. debug_traced p.0 p.1) sets traces (sym same) i s t there s_is t_is) misfit)
 
 -- a debug check over what tables encode
-pub checks_tables : (E : Extension BabyBear (Quartic BabyBear)) (airs : List Tables) (traces : List Traces) (sets : List (Lookups BabyBear)) (all : List ReadTraces) (ts : List (Traced BabyBear))
-    (answer : Result (Unit {0}) Fault) → AreTableSets airs sets → AreBatchTraces traces all → length traces ≡ length airs → ts ≡ all_traced sets all
-    → MatchResult answer (λ _. ChecksTraced E ts) (IsMismatchRefusal E ts)
-    → MatchResult answer (λ _. DebugChecksTables E airs traces) (IsCallRefusal E airs traces)
-checks_tables E airs traces sets all ts answer sets_are all_are as_many ts_are over =
-    let whole = subst (λ (us : List (Traced BabyBear)). MatchResult answer (λ _. ChecksTraced E us) (IsMismatchRefusal E us)) ts_are over in
+pub checks_tables : {p : ℕ} (positive : 0 < p) (E : Extension (Residue p) (Quartic (Residue p))) (airs : List Tables) (traces : List Traces) (sets : List (Lookups (Residue p))) (all : List (ReadTraces (Residue p))) (ts : List (Traced (Residue p)))
+    (answer : Result (Unit {0}) Fault) → AreDebugSets airs sets → AreTracesOfTables positive traces all → length traces ≡ length airs → ts ≡ all_debug_traced sets all
+    → MatchResult answer (λ _. DebugChecksTraced E ts) (IsDebugMismatch E ts)
+    → MatchResult answer (λ _. DebugChecksTables positive E airs traces) (IsDebugCheckRefusal positive E airs traces)
+checks_tables {p} positive E airs traces sets all ts answer sets_are all_are as_many ts_are over =
+    let whole = subst (λ (us : List (Traced (Residue p))). MatchResult answer (λ _. DebugChecksTraced E us) (IsDebugMismatch E us)) ts_are over in
     MatchResult-weaker answer whole
     (λ _ balance. record { sets = sets; sets_are = sets_are; all = all; all_are = all_are; as_many = as_many; balance = balance })
     (λ fault refusal. inr (inr (inr (inr (record { sets = sets; sets_are = sets_are; all = all; all_are = all_are; refusal = inr refusal })))))

@@ -1,5 +1,6 @@
 -- Checks of ranges of rows, as checks of the whole trace.
-use Rattle.std.proofs.Common.{◌≡◌, ◌∙◌, ◌*◌, ◌+◌, ◌∷◌, [], ℕ, List, Option, ap, arith, length, map, refl, subst₂, sym}
+use Rattle.std.proofs.Common.{◌<◌, ◌≡◌, ◌∙◌, ◌*◌, ◌+◌, ◌∷◌, [], ℕ, List, Option, ap, arith, length, map, refl, subst₂, sym}
+use Rattle.field.specs.Residue.{Residue}
 use Rattle.air.specs.Traces.{AirTraces, height_of}
 use Rattle.checker.specs.Ranges.{RowsHoldUntil}
 use Rattle.field.specs.Extension.{Extension}
@@ -14,15 +15,14 @@ use Rattle.lookup_model.specs.declared.types.Lookup.{Lookup}
 use Rattle.lookup_model.specs.declared.types.LookupTerminal.{LookupTerminal}
 use Rattle.lookup_ranges.specs.Around.{IsMatrixAround}
 use Rattle.lookup_ranges.specs.declared.range.RowRange.{RowRange}
-use Rattle.lookup_tables.specs.Nodes.{BabyBear}
-use Rattle.lookup_tables.specs.Numbers.{quartic_of}
+use Rattle.lookup_tables.specs.Numbers.{quartic_of_numbers}
 use Rattle.lookup_tables.specs.declared.tables.Tables.{Tables}
 use Rattle.lookup_tables.specs.declared.traces.Traces.{Traces}
-use Rattle.lookup_c.specs.JoinedRows.{ChecksRows}
-use Rattle.lookup_c.specs.PlannedAirs.{plan_table}
+use Rattle.lookup_c.specs.JoinedRows.{ChecksJoinedRows}
+use Rattle.lookup_c.specs.PlannedAirs.{planned_table}
 use Rattle.lookup_c.specs.Rows.{range_of}
-use Rattle.lookup_c.specs.VerifyRows.{instance_over}
-use Rattle.lookup_c.specs.Witnesses.{auxiliary_of, terminal_of}
+use Rattle.lookup_c.specs.VerifyRows.{instance_with_ids}
+use Rattle.lookup_c.specs.Witnesses.{witness_auxiliary, witness_terminal}
 use Rattle.lookup_c.specs.declared.plan.PlanSizes.{PlanSizes}
 use Rattle.lookup_c.specs.declared.rows.Rows.{Rows}
 use Rattle.lookup_c.specs.declared.witness.AirWitness.{AirWitness}
@@ -61,9 +61,9 @@ whole_shape range others lookups h around auxiliary part terminal many high is s
       whole = shaped_by_rows auxiliary.values h auxiliary.width full;
     }
 
-module _ (E : Extension BabyBear (Quartic BabyBear)) (table : ChallengeTable (Quartic BabyBear)) (ids : List ℕ) (whole : AirTraces BabyBear) (others lookups : List (Lookup BabyBear)) (auxiliary : Matrix (Quartic BabyBear)) (terminal : Option (LookupTerminal (Quartic BabyBear))) (same : map outline_of others ≡ map outline_of lookups) where
+module _ {F K : Type 0} (E : Extension F K) (table : ChallengeTable K) (ids : List ℕ) (whole : AirTraces F) (others lookups : List (Lookup F)) (auxiliary : Matrix K) (terminal : Option (LookupTerminal K)) (same : map outline_of others ≡ map outline_of lookups) where
   -- the same rows hold
-  until_same : (first end row : ℕ) → RowsHoldUntil E table (instance_over others ids whole) (auxiliary, terminal) first end row → RowsHoldUntil E table (instance_over lookups ids whole) (auxiliary, terminal) first end row
+  until_same : (first end row : ℕ) → RowsHoldUntil E table (instance_with_ids others ids whole) (auxiliary, terminal) first end row → RowsHoldUntil E table (instance_with_ids lookups ids whole) (auxiliary, terminal) first end row
   until_same first end row until = record {
     from = until.from;
     up_to = until.up_to;
@@ -72,12 +72,12 @@ module _ (E : Extension BabyBear (Quartic BabyBear)) (table : ChallengeTable (Qu
   }
 
 -- what a call accepts holds on the rows of the whole
-pub rows_checked : (E : Extension BabyBear (Quartic BabyBear)) (tables : Tables) (ids : List ℕ) (sizes : PlanSizes) (alpha beta : List ℕ) (around : Traces) (rows : Rows) (numbers : AirWitness) → ChecksRows E tables ids sizes alpha beta around rows numbers
-rows_checked E tables ids sizes alpha beta around rows numbers whole auxiliary lookups verified are is encoded =
-    let same = encoded.only verified.lookups verified.air.encoded.are in
+pub rows_checked : {p : ℕ} (positive : 0 < p) (E : Extension (Residue p) (Quartic (Residue p))) (tables : Tables) (ids : List ℕ) (sizes : PlanSizes) (alpha beta : List ℕ) (around : Traces) (rows : Rows) (numbers : AirWitness) → ChecksJoinedRows positive E tables ids sizes alpha beta around rows numbers
+rows_checked positive E tables ids sizes alpha beta around rows numbers whole auxiliary lookups verified are is encoded =
+    let same = encoded.only verified.lookups verified.air.read.encoded.are in
     let many = same_many verified.lookups lookups same in
-    let terminal = terminal_of numbers.terminal in (
-      whole_shape (range_of rows) verified.lookups lookups (height_of whole) _ auxiliary (auxiliary_of numbers) terminal many are.high is verified.holds.0,
-      until_same E (plan_table E.ring sizes (quartic_of alpha) (quartic_of beta)) ids whole verified.lookups lookups auxiliary terminal same rows.first rows.end rows.end
-          (subst₂ (λ a b. RowsHoldUntil E (plan_table E.ring sizes a b) (instance_over verified.lookups ids whole) (auxiliary, terminal) rows.first rows.end rows.end) verified.air.alpha_is.0 verified.air.beta_is.0 (verified.holds.1 whole auxiliary are is)),
+    let terminal = witness_terminal positive numbers.terminal in (
+      whole_shape (range_of rows) verified.lookups lookups (height_of whole) _ auxiliary (witness_auxiliary positive numbers) terminal many are.high is verified.holds.0,
+      until_same E (planned_table E.ring sizes (quartic_of_numbers positive alpha) (quartic_of_numbers positive beta)) ids whole verified.lookups lookups auxiliary terminal same rows.first rows.end rows.end
+          (subst₂ (λ a b. RowsHoldUntil E (planned_table E.ring sizes a b) (instance_with_ids verified.lookups ids whole) (auxiliary, terminal) rows.first rows.end rows.end) verified.air.read.alpha_is.0 verified.air.read.beta_is.0 (verified.holds.1 whole auxiliary are is)),
     )

@@ -1,5 +1,6 @@
 pub mod AnswerLaws
 pub mod BatchLaws
+pub mod ByIdsLaws
 pub mod CellLaws
 pub mod DebugLaws
 pub mod GenerateLaws

@@ -1,5 +1,6 @@
 -- Checks of ranges of rows over elements, as checks over tables of numbers.
-use Rattle.std.proofs.Common.{◌≡◌, ◌≤◌, ℕ, List, Option, arith, subst, sym}
+use Rattle.std.proofs.Common.{◌<◌, ◌≡◌, ◌≤◌, ℕ, List, Option, arith, subst, sym}
+use Rattle.field.specs.Residue.{Residue}
 use Rattle.air.specs.Traces.{AirTraces}
 use Rattle.checker.specs.Ranges.{RowsHoldUntil}
 use Rattle.field.specs.Extension.{Extension}
@@ -13,43 +14,42 @@ use Rattle.lookup_model.specs.declared.types.Lookup.{Lookup}
 use Rattle.lookup_model.specs.declared.types.LookupTerminal.{LookupTerminal}
 use Rattle.lookup_ranges.specs.Around.{AreAround, IsMatrixAround, over_traces}
 use Rattle.lookup_ranges.specs.declared.range.RowRange.{RowRange}
-use Rattle.lookup_tables.specs.Nodes.{BabyBear}
 use Rattle.lookup_tables.specs.declared.tables.Tables.{Tables}
 use Rattle.lookup_tables.specs.declared.traces.Traces.{Traces}
 use Rattle.lookup_c.specs.Inputs.{decoded_traces}
-use Rattle.lookup_c.specs.PlannedAirs.{IsPlannedAir, plan_table}
-use Rattle.lookup_c.specs.Rows.{HasRowsAround, range_of}
-use Rattle.lookup_c.specs.VerifyRows.{HasRightShape, HoldUntilOfAll, IsFailingRow, OfWitness, VerifiesRows, instance_over, result_of}
-use Rattle.lookup_c.specs.Witnesses.{IsAirWitness, auxiliary_of, terminal_of}
+use Rattle.lookup_c.specs.PlannedAirs.{IsPlannedAir, planned_table}
+use Rattle.lookup_c.specs.Rows.{HasCallRowsAround, range_of}
+use Rattle.lookup_c.specs.VerifyRows.{HasVerifyRowsShape, VerifiedRowsHoldUntil, IsFailingVerifyRow, OfVerifyRows, CallVerifiesRows, instance_with_ids, witness_result}
+use Rattle.lookup_c.specs.Witnesses.{IsAirWitness, witness_auxiliary, witness_terminal}
 use Rattle.lookup_c.specs.declared.plan.PlanSizes.{PlanSizes}
 use Rattle.lookup_c.specs.declared.rows.Rows.{Rows}
 use Rattle.lookup_c.specs.declared.witness.AirWitness.{AirWitness}
 
-module _ (E : Extension BabyBear (Quartic BabyBear)) where
+module _ {F K : Type 0} (E : Extension F K) where
   -- up to which row of a range the constraints are zero, of every whole trace
-  abbrev pub HoldsAround : Instance BabyBear → Matrix (Quartic BabyBear) → Option (LookupTerminal (Quartic BabyBear)) → ChallengeTable (Quartic BabyBear) → RowRange → ℕ → Type 0
+  abbrev pub HoldsAround : Instance F → Matrix K → Option (LookupTerminal K) → ChallengeTable K → RowRange → ℕ → Type 0
   HoldsAround around aux terminal table range row =
-      (whole : AirTraces BabyBear) (auxiliary : Matrix (Quartic BabyBear)) → AreAround range whole around.traces → IsMatrixAround range auxiliary aux
+      (whole : AirTraces F) (auxiliary : Matrix K) → AreAround range whole around.traces → IsMatrixAround range auxiliary aux
       → RowsHoldUntil E table (over_traces whole around) (auxiliary, terminal) range.first range.end row
 
 -- an AIR that is read is fitting
-pub read_fits : (tables : Tables) (around : Traces) (rows : Rows) (ids : List ℕ) (sizes : PlanSizes) (alpha beta : List ℕ) (lookups : List (Lookup BabyBear)) (a b : Quartic BabyBear) (instance : Instance BabyBear)
-    → IsPlannedAir tables around ids sizes alpha beta lookups a b → HasRowsAround rows (decoded_traces around) → instance ≡ instance_over lookups ids (decoded_traces around) → IsFitting instance
-read_fits tables around rows ids sizes alpha beta lookups a b instance air has_rows is = subst IsFitting (sym is) (record {
+pub read_fits : {p : ℕ} (positive : 0 < p) (tables : Tables) (around : Traces) (rows : Rows) (ids : List ℕ) (sizes : PlanSizes) (alpha beta : List ℕ) (lookups : List (Lookup (Residue p))) (a b : Quartic (Residue p)) (instance : Instance (Residue p))
+    → IsPlannedAir positive tables around ids sizes alpha beta lookups a b → HasCallRowsAround rows (decoded_traces positive around) → instance ≡ instance_with_ids lookups ids (decoded_traces positive around) → IsFitting instance
+read_fits positive tables around rows ids sizes alpha beta lookups a b instance air has_rows is = subst IsFitting (sym is) (record {
   fit = air.fitting.fit;
   heights = air.fitting.heights;
   nonempty = λ _. omega (arith, has_rows.many, has_rows.range.some);
-  ids = air.as_many;
+  ids = air.read.as_many;
 })
 
-module _ (E : Extension BabyBear (Quartic BabyBear)) (tables : Tables) (around : Traces) (rows : Rows) (ids : List ℕ) (sizes : PlanSizes) (alpha beta : List ℕ) (numbers : AirWitness) (lookups : List (Lookup BabyBear)) (a b : Quartic BabyBear) (instance : Instance BabyBear)
-    (air : IsPlannedAir tables around ids sizes alpha beta lookups a b) (has_rows : HasRowsAround rows (decoded_traces around)) (is : instance ≡ instance_over lookups ids (decoded_traces around)) where
-  module _ (aux : Matrix (Quartic BabyBear)) (terminal : Option (LookupTerminal (Quartic BabyBear))) (witness_is : IsAirWitness numbers) (aux_is : aux ≡ auxiliary_of numbers) (terminal_is : terminal ≡ terminal_of numbers.terminal) where
-    result_is : (aux, terminal) ≡ result_of numbers
+module _ {p : ℕ} (positive : 0 < p) (E : Extension (Residue p) (Quartic (Residue p))) (tables : Tables) (around : Traces) (rows : Rows) (ids : List ℕ) (sizes : PlanSizes) (alpha beta : List ℕ) (numbers : AirWitness) (lookups : List (Lookup (Residue p))) (a b : Quartic (Residue p)) (instance : Instance (Residue p))
+    (air : IsPlannedAir positive tables around ids sizes alpha beta lookups a b) (has_rows : HasCallRowsAround rows (decoded_traces positive around)) (is : instance ≡ instance_with_ids lookups ids (decoded_traces positive around)) where
+  module _ (aux : Matrix (Quartic (Residue p))) (terminal : Option (LookupTerminal (Quartic (Residue p)))) (witness_is : IsAirWitness p numbers) (aux_is : aux ≡ witness_auxiliary positive numbers) (terminal_is : terminal ≡ witness_terminal positive numbers.terminal) where
+    result_is : (aux, terminal) ≡ witness_result positive numbers
     result_is i = (aux_is i, terminal_is i)
 
     -- the refusal of its shape
-    pub shape_refused : (error : LookupError) → IsShapeRefusal 0 instance (aux, terminal) error → OfWitness E tables around rows ids sizes alpha beta numbers (λ ls _. IsShapeRefusal 0 (instance_over ls ids (decoded_traces around)) (result_of numbers) error)
+    pub shape_refused : (error : LookupError) → IsShapeRefusal 0 instance (aux, terminal) error → OfVerifyRows positive E tables around rows ids sizes alpha beta numbers (λ ls _. IsShapeRefusal 0 (instance_with_ids ls ids (decoded_traces positive around)) (witness_result positive numbers) error)
     shape_refused error refusal = record {
       lookups = lookups;
       a = a;
@@ -57,24 +57,24 @@ module _ (E : Extension BabyBear (Quartic BabyBear)) (tables : Tables) (around :
       air = air;
       has_rows = has_rows;
       witness_is = witness_is;
-      holds = subst (λ i. IsShapeRefusal 0 i (result_of numbers) error) is (subst (λ r. IsShapeRefusal 0 instance r error) result_is refusal);
+      holds = subst (λ i. IsShapeRefusal 0 i (witness_result positive numbers) error) is (subst (λ r. IsShapeRefusal 0 instance r error) result_is refusal);
     }
 
-    module _ (table : ChallengeTable (Quartic BabyBear)) (range : RowRange) (table_is : table ≡ plan_table E.ring sizes a b) (range_is : range ≡ range_of rows) (shape : HasShapeAt instance (aux, terminal)) (row : ℕ) (over : HoldsAround E instance aux terminal table range row) where
+    module _ (table : ChallengeTable (Quartic (Residue p))) (range : RowRange) (table_is : table ≡ planned_table E.ring sizes a b) (range_is : range ≡ range_of rows) (shape : HasShapeAt instance (aux, terminal)) (row : ℕ) (over : HoldsAround E instance aux terminal table range row) where
       -- what is found of the whole traces
-      found : HoldUntilOfAll E around rows ids numbers lookups (plan_table E.ring sizes a b) row
+      found : VerifiedRowsHoldUntil positive E around rows ids numbers lookups (planned_table E.ring sizes a b) row
       found =
-          subst (λ i. HoldsAround E i (auxiliary_of numbers) (terminal_of numbers.terminal) (plan_table E.ring sizes a b) (range_of rows) row) is
-          (subst (λ m. HoldsAround E instance m (terminal_of numbers.terminal) (plan_table E.ring sizes a b) (range_of rows) row) aux_is
-          (subst (λ t. HoldsAround E instance aux t (plan_table E.ring sizes a b) (range_of rows) row) terminal_is
+          subst (λ i. HoldsAround E i (witness_auxiliary positive numbers) (witness_terminal positive numbers.terminal) (planned_table E.ring sizes a b) (range_of rows) row) is
+          (subst (λ m. HoldsAround E instance m (witness_terminal positive numbers.terminal) (planned_table E.ring sizes a b) (range_of rows) row) aux_is
+          (subst (λ t. HoldsAround E instance aux t (planned_table E.ring sizes a b) (range_of rows) row) terminal_is
           (subst (λ t. HoldsAround E instance aux terminal t (range_of rows) row) table_is
           (subst (λ r. HoldsAround E instance aux terminal table r row) range_is over))))
 
-      right_shape : HasRightShape E tables around rows ids sizes alpha beta numbers lookups
-      right_shape = subst (λ i. HasShapeAt i (result_of numbers)) is (subst (λ r. HasShapeAt instance r) result_is shape)
+      right_shape : HasVerifyRowsShape positive E tables around rows ids sizes alpha beta numbers lookups
+      right_shape = subst (λ i. HasShapeAt i (witness_result positive numbers)) is (subst (λ r. HasShapeAt instance r) result_is shape)
 
       -- a row of the range on which a constraint is not zero
-      pub row_fails : IsFailingRow E tables around rows ids sizes alpha beta numbers row
+      pub row_fails : IsFailingVerifyRow positive E tables around rows ids sizes alpha beta numbers row
       row_fails = record {
         lookups = lookups;
         a = a;
@@ -86,7 +86,7 @@ module _ (E : Extension BabyBear (Quartic BabyBear)) (tables : Tables) (around :
       }
 
       -- all are zero
-      pub rows_hold : rows.end ≤ row → VerifiesRows E tables around rows ids sizes alpha beta numbers
+      pub rows_hold : rows.end ≤ row → CallVerifiesRows positive E tables around rows ids sizes alpha beta numbers
       rows_hold past = record {
         lookups = lookups;
         a = a;
@@ -98,6 +98,6 @@ module _ (E : Extension BabyBear (Quartic BabyBear)) (tables : Tables) (around :
           right_shape,
           λ whole auxiliary are is_auxiliary.
               let until = found whole auxiliary are is_auxiliary in
-              subst (RowsHoldUntil E (plan_table E.ring sizes a b) (instance_over lookups ids whole) (auxiliary, terminal_of numbers.terminal) rows.first rows.end) (omega (arith, until.up_to, past)) until,
+              subst (RowsHoldUntil E (planned_table E.ring sizes a b) (instance_with_ids lookups ids whole) (auxiliary, witness_terminal positive numbers.terminal) rows.first rows.end) (omega (arith, until.up_to, past)) until,
         );
       }

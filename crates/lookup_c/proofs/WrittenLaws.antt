@@ -6,7 +6,7 @@ use Rattle.std.specs.List.{concat, flat_map}
 use Rattle.std.specs.declared.alloc.Global.{Global}
 use Rattle.std.specs.declared.vec.Vec.{Vec}
 use Rattle.batch.specs.Lists.{lists_of}
-use Rattle.lookup_c.specs.Plan.{items_of}
+use Rattle.lookup_c.specs.Plan.{id_items}
 
 -- one more item is written, from a place on
 pub written_next : {A B : Type 0} (f : A → B) (start cells after : List B) (at i : ℕ) (values : List A) (d : A) (v : B) → i < length values → at + i < length cells
@@ -92,6 +92,6 @@ pub map_next : {A B : Type 0} (f : A → B) (xs : List A) (i : ℕ) (d : A) (bef
 map_next f xs i d before after y there pushed is so_far = pushed ∙ ((λ k. so_far k ++ is k ∷ []) ∙ sym (map_more f xs i d there))
 
 -- the ids of a plan, list after list
-pub all_ids_are : (ids : List (Vec ℕ Global)) → concat (lists_of ids) ≡ flat_map items_of ids
+pub all_ids_are : (ids : List (Vec ℕ Global)) → concat (lists_of ids) ≡ flat_map id_items ids
 all_ids_are [] = refl
 all_ids_are (list ∷ rest) = ap (λ more. list.items ++ more) (all_ids_are rest)

@@ -1,6 +1,7 @@
 -- Batches that tables of numbers encode.
-use Rattle.std.specs.Prelude.{◌≡◌, ◌⊎◌, ℕ, All, List, map}
+use Rattle.std.specs.Prelude.{◌<◌, ◌≡◌, ◌⊎◌, ℕ, All, List, map}
 use Rattle.std.specs.List.{AllZip}
+use Rattle.field.specs.Residue.{Residue}
 use Rattle.expressions.specs.Faults.{HasFirstFault}
 use Rattle.field.specs.Extension.{Extension}
 use Rattle.field.specs.Quartic.{Quartic}
@@ -17,89 +18,89 @@ use Rattle.batch.specs.Traces.{view_of}
 use Rattle.batch.specs.declared.error.BatchError.{BatchError}
 use Rattle.batch.specs.declared.error.BatchError.TheVariants.{Memory as NoMemory}
 use Rattle.batch.specs.declared.trace.BatchTrace.{BatchTrace}
-use Rattle.lookup_tables.specs.Nodes.{BabyBear}
-use Rattle.lookup_tables.specs.Tables.{EncodeLookups}
-use Rattle.lookup_tables.specs.Traces.{AreCanonical, AreTracesOf}
+use Rattle.lookup_tables.specs.Tables.{TablesEncode}
+use Rattle.lookup_tables.specs.TraceNumbers.{AreNumbersOfTraces, AreTracesOfNumbers}
 use Rattle.lookup_tables.specs.declared.tables.Tables.{Tables}
 use Rattle.lookup_tables.specs.declared.traces.ReadTraces.{ReadTraces}
 use Rattle.lookup_tables.specs.declared.traces.Traces.{Traces}
-use Rattle.lookup_c.specs.Inputs.{IsChallenge, IsChallengeRefusal, IsTableRefusal, IsTracesRefusal, decoded_traces}
+use Rattle.lookup_c.specs.Inputs.{IsInputChallenge, IsInputChallengeRefusal, IsInputTableRefusal, IsInputTracesRefusal, decoded_traces}
 use Rattle.lookup_c.specs.declared.batch_tables.Air.{Air}
 use Rattle.lookup_c.specs.declared.codes.Part.TheVariants.{Alphas, Betas}
 use Rattle.lookup_c.specs.declared.fault.Fault.{Fault}
 use Rattle.lookup_c.specs.declared.fault.Fault.TheVariants.{Batch, Lookup as OfLookup, Memory}
 
 -- the tables of each AIR encode the lookups of its set, and no others
-abbrev pub AreSets : List Air → List (Lookups BabyBear) → Type 0
-AreSets airs sets = AllZip (λ air set. EncodeLookups air.tables (lookups_of set)) airs sets
+abbrev pub AreSetsOfTables : {p : ℕ} → List Air → List (Lookups (Residue p)) → Type 0
+AreSetsOfTables airs sets = AllZip (λ air set. TablesEncode air.tables (lookups_of set)) airs sets
 
 -- the refusal of the tables of an AIR, or of the first of its lookups with lists of different lengths
-abbrev pub IsSetRefusal : ℕ → Tables → Fault → Type 0
-IsSetRefusal air tables fault =
-    IsTableRefusal air tables fault
-    ⊎ ((lookups : List (Lookup BabyBear)) × EncodeLookups tables lookups × ((i : ℕ) × (fault ≡ OfLookup air (BadRecord i)) × IsFirstMalformed lookups i))
+abbrev pub IsSetOfTablesRefusal : ℕ → ℕ → Tables → Fault → Type 0
+IsSetOfTablesRefusal p air tables fault =
+    IsInputTableRefusal p air tables fault
+    ⊎ ((lookups : List (Lookup (Residue p))) × TablesEncode tables lookups × ((i : ℕ) × (fault ≡ OfLookup air (BadRecord i)) × IsFirstMalformed lookups i))
 
 -- the tables of an AIR encode some lookups
-abbrev pub AreTablesOfSet : Tables → Type 0
-AreTablesOfSet tables = (set : Lookups BabyBear) × EncodeLookups tables (lookups_of set)
+abbrev pub AreTablesOfSet : ℕ → Tables → Type 0
+AreTablesOfSet p tables = (set : Lookups (Residue p)) × TablesEncode tables (lookups_of set)
 
 -- the refusal of the first AIR that has one; or memory runs out
-abbrev pub IsAirsRefusal : List Air → Fault → Type 0
-IsAirsRefusal airs fault = (fault ≡ Memory) ⊎ HasFirstFault (λ air. AreTablesOfSet air.tables) (λ index air. IsSetRefusal index air.tables fault) airs
+abbrev pub IsSetsOfTablesRefusal : ℕ → List Air → Fault → Type 0
+IsSetsOfTablesRefusal p airs fault = (fault ≡ Memory) ⊎ HasFirstFault (λ air. AreTablesOfSet p air.tables) (λ index air. IsSetOfTablesRefusal p index air.tables fault) airs
 
 -- the heights of the AIRs
-abbrev pub heights_of : List Air → List ℕ
-heights_of airs = map (λ air. air.height) airs
+abbrev pub heights_of_tables : List Air → List ℕ
+heights_of_tables airs = map (λ air. air.height) airs
 
 -- The plan of the AIRs: of the lookups that their tables encode, and of their heights.
-pub record IsPlanOf (airs : List Air) (plan : Plan BabyBear) : Type 0 where
-  pub sets : AreSets airs plan.airs
-  pub heights : plan.heights ≡ heights_of airs
-  pub facts : IsPlan 2013265921 plan
+pub record IsPlanOfTables {p : ℕ} (airs : List Air) (plan : Plan (Residue p)) : Type 0 where
+  pub sets : AreSetsOfTables airs plan.airs
+  pub heights : plan.heights ≡ heights_of_tables airs
+  pub facts : IsPlan p plan
   pub even : HaveEvenWidths plan.airs
 
 -- The refusal of the tables, or of the plan of what they encode; or memory runs out.
-abbrev pub IsPlanOfRefusal : List Air → Fault → Type 0
-IsPlanOfRefusal airs fault =
-    IsAirsRefusal airs fault
-    ⊎ ((sets : List (Lookups BabyBear)) × AreSets airs sets
-    × ((e : BatchError) × (fault ≡ Batch e) × ((e ≡ NoMemory) ⊎ IsPlanRefusal 2013265921 sets (heights_of airs) e)))
+abbrev pub IsPlanOfTablesRefusal : ℕ → List Air → Fault → Type 0
+IsPlanOfTablesRefusal p airs fault =
+    IsSetsOfTablesRefusal p airs fault
+    ⊎ ((sets : List (Lookups (Residue p))) × AreSetsOfTables airs sets
+    × ((e : BatchError) × (fault ≡ Batch e) × ((e ≡ NoMemory) ⊎ IsPlanRefusal p sets (heights_of_tables airs) e)))
 
 -- the traces that tables encode, AIR by AIR
-abbrev pub AreBatchTraces : List Traces → List ReadTraces → Type 0
-AreBatchTraces traces all = AllZip AreTracesOf traces all
+abbrev pub AreTracesOfTables : {p : ℕ} → 0 < p → List Traces → List (ReadTraces (Residue p)) → Type 0
+AreTracesOfTables positive traces all = AllZip (AreTracesOfNumbers positive) traces all
 
 -- the refusal of the first traces that have one; or memory runs out
-abbrev pub IsBatchTracesRefusal : List Traces → Fault → Type 0
-IsBatchTracesRefusal traces fault =
-    (fault ≡ Memory) ⊎ HasFirstFault (λ air. (read : ReadTraces) × AreTracesOf air read) (λ index air. IsTracesRefusal index air fault) traces
+abbrev pub IsTracesOfTablesRefusal : {p : ℕ} → 0 < p → List Traces → Fault → Type 0
+IsTracesOfTablesRefusal {p} positive traces fault =
+    (fault ≡ Memory) ⊎ HasFirstFault (λ air. (read : ReadTraces (Residue p)) × AreTracesOfNumbers positive air read) (λ index air. IsInputTracesRefusal p index air fault) traces
 
 -- what a plan is given are views of the traces that these tables encode
-abbrev pub AreViewsOf : List Traces → List (BatchTrace BabyBear) → Type 0
-AreViewsOf traces given = map view_of given ≡ map decoded_traces traces
+abbrev pub AreViewsOfTables : {p : ℕ} → 0 < p → List Traces → List (BatchTrace (Residue p)) → Type 0
+AreViewsOfTables positive traces given = map view_of given ≡ map (decoded_traces positive) traces
 
 -- The batch that tables encode: the plan of its AIRs and, as a plan is given them, its traces. All numbers of
 -- these are below the modulus.
-pub record IsBatch (airs : List Air) (traces : List Traces) (plan : Plan BabyBear) (given : List (BatchTrace BabyBear)) : Type 0 where
-  pub plan_is : IsPlanOf airs plan
-  pub below : All AreCanonical traces
-  pub views : AreViewsOf traces given
+pub record IsBatchOfTables {p : ℕ} (positive : 0 < p) (airs : List Air) (traces : List Traces) (plan : Plan (Residue p)) (given : List (BatchTrace (Residue p))) : Type 0 where
+  pub plan_is : IsPlanOfTables airs plan
+  pub below : All (AreNumbersOfTraces p) traces
+  pub views : AreViewsOfTables positive traces given
 
 -- the refusal of the plan or of the traces; or memory runs out
-abbrev pub IsBatchRefusal : List Air → List Traces → Fault → Type 0
-IsBatchRefusal airs traces fault = (fault ≡ Memory) ⊎ (IsPlanOfRefusal airs fault ⊎ IsBatchTracesRefusal traces fault)
+abbrev pub IsBatchOfTablesRefusal : {p : ℕ} → 0 < p → List Air → List Traces → Fault → Type 0
+IsBatchOfTablesRefusal {p} positive airs traces fault =
+    (fault ≡ Memory) ⊎ (IsPlanOfTablesRefusal p airs fault ⊎ IsTracesOfTablesRefusal positive traces fault)
 
 -- something holds of the batch that tables encode
-abbrev pub OfBatch : List Air → List Traces → (Plan BabyBear → List (BatchTrace BabyBear) → Type 0) → Type 0
-OfBatch airs traces Holds = (plan : Plan BabyBear) × (given : List (BatchTrace BabyBear)) × IsBatch airs traces plan given × Holds plan given
+abbrev pub OfBatchOfTables : {p : ℕ} → 0 < p → List Air → List Traces → (Plan (Residue p) → List (BatchTrace (Residue p)) → Type 0) → Type 0
+OfBatchOfTables {p} positive airs traces Holds = (plan : Plan (Residue p)) × (given : List (BatchTrace (Residue p))) × IsBatchOfTables positive airs traces plan given × Holds plan given
 
 -- something holds of the run over it at the challenges that numbers are
-abbrev pub OfRun : Extension BabyBear (Quartic BabyBear) → List Air → List Traces → List ℕ → List ℕ → (Run BabyBear (Quartic BabyBear) → Type 0) → Type 0
-OfRun E airs traces alpha beta Holds =
-    (plan : Plan BabyBear) × (given : List (BatchTrace BabyBear)) × (a : Quartic BabyBear) × (b : Quartic BabyBear)
-    × IsBatch airs traces plan given × IsChallenge alpha a × IsChallenge beta b × Holds (run_of E plan given a b)
+abbrev pub OfRunOfTables : {p : ℕ} → 0 < p → Extension (Residue p) (Quartic (Residue p)) → List Air → List Traces → List ℕ → List ℕ → (Run (Residue p) (Quartic (Residue p)) → Type 0) → Type 0
+OfRunOfTables {p} positive E airs traces alpha beta Holds =
+    (plan : Plan (Residue p)) × (given : List (BatchTrace (Residue p))) × (a : Quartic (Residue p)) × (b : Quartic (Residue p))
+    × IsBatchOfTables positive airs traces plan given × IsInputChallenge positive alpha a × IsInputChallenge positive beta b × Holds (run_of E plan given a b)
 
 -- the refusal of the batch, of alpha, or of beta
-abbrev pub IsRunRefusal : List Air → List Traces → List ℕ → List ℕ → Fault → Type 0
-IsRunRefusal airs traces alpha beta fault =
-    IsBatchRefusal airs traces fault ⊎ (IsChallengeRefusal Alphas alpha fault ⊎ IsChallengeRefusal Betas beta fault)
+abbrev pub IsRunOfTablesRefusal : {p : ℕ} → 0 < p → List Air → List Traces → List ℕ → List ℕ → Fault → Type 0
+IsRunOfTablesRefusal {p} positive airs traces alpha beta fault =
+    IsBatchOfTablesRefusal positive airs traces fault ⊎ (IsInputChallengeRefusal p Alphas alpha fault ⊎ IsInputChallengeRefusal p Betas beta fault)

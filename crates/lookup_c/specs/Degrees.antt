@@ -1,31 +1,31 @@
 -- What is answered for the degrees of lookups.
 use Rattle.std.specs.Prelude.{◌≡◌, ◌≢◌, ◌⊎◌, ◌^◌, ◌≤◌, ℕ, List, Some, length, map, slice_get}
+use Rattle.field.specs.Residue.{Residue}
 use Rattle.lookup_model.specs.LookupDegree.{lookup_degree}
 use Rattle.lookup_model.specs.declared.error.LookupError.TheVariants.{DegreeOverflow}
 use Rattle.lookup_model.specs.declared.types.Lookup.{Lookup}
-use Rattle.lookup_tables.specs.Nodes.{BabyBear}
-use Rattle.lookup_tables.specs.Tables.{EncodeLookups}
+use Rattle.lookup_tables.specs.Tables.{TablesEncode}
 use Rattle.lookup_tables.specs.declared.tables.Tables.{Tables}
-use Rattle.lookup_c.specs.BatchTables.{IsSetRefusal}
+use Rattle.lookup_c.specs.BatchTables.{IsSetOfTablesRefusal}
 use Rattle.lookup_c.specs.declared.fault.Fault.{Fault}
 use Rattle.lookup_c.specs.declared.fault.Fault.TheVariants.{Length, Lookup as OfLookup, Memory}
 use Rattle.lookup_c.specs.declared.codes.Part.TheVariants.{Degrees}
 
 -- a degree that does not fit 64 bits; or memory runs out
-abbrev pub IsDegreeRefusal : List (Lookup BabyBear) → Fault → Type 0
-IsDegreeRefusal lookups fault =
+abbrev pub IsLargeDegreesRefusal : {F : Type 0} → List (Lookup F) → Fault → Type 0
+IsLargeDegreesRefusal {F} lookups fault =
     (fault ≡ Memory)
-    ⊎ ((i : ℕ) × (lookup : Lookup BabyBear) × (slice_get lookups i ≡ Some lookup) × (2 ^ 64 ≤ lookup_degree 0 lookup) × (fault ≡ OfLookup 0 DegreeOverflow))
+    ⊎ ((i : ℕ) × (lookup : Lookup F) × (slice_get lookups i ≡ Some lookup) × (2 ^ 64 ≤ lookup_degree 0 lookup) × (fault ≡ OfLookup 0 DegreeOverflow))
 
 -- the degree of each lookup that the tables encode
-pub record GivesDegrees (tables : Tables) (degrees : List ℕ) : Type 0 where
-  pub lookups : List (Lookup BabyBear)
-  pub encoded : EncodeLookups tables lookups
+pub record CallGivesDegrees (p : ℕ) (tables : Tables) (degrees : List ℕ) : Type 0 where
+  pub lookups : List (Lookup (Residue p))
+  pub encoded : TablesEncode tables lookups
   pub degrees_are : degrees ≡ map (lookup_degree 0) lookups
 
 -- The refusal of the lookups, of a degree, or for the room.
-abbrev pub IsCallRefusal : Tables → ℕ → Fault → Type 0
-IsCallRefusal tables room fault =
-    IsSetRefusal 0 tables fault
-    ⊎ ((lookups : List (Lookup BabyBear)) × EncodeLookups tables lookups
-    × (IsDegreeRefusal lookups fault ⊎ ((length lookups ≢ room) × (fault ≡ Length Degrees (length lookups) room))))
+abbrev pub IsDegreesRefusal : ℕ → Tables → ℕ → Fault → Type 0
+IsDegreesRefusal p tables room fault =
+    IsSetOfTablesRefusal p 0 tables fault
+    ⊎ ((lookups : List (Lookup (Residue p))) × TablesEncode tables lookups
+    × (IsLargeDegreesRefusal lookups fault ⊎ ((length lookups ≢ room) × (fault ≡ Length Degrees (length lookups) room))))

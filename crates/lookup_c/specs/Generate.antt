@@ -1,5 +1,6 @@
 -- What generation of one AIR answers from tables of numbers.
 use Rattle.std.specs.Prelude.{◌≡◌, ◌≢◌, ◌⊎◌, ◌*◌, ◌-◌, ◌^◌, ◌<◌, ℕ, List, [], Option, Some, length, min, slice_get}
+use Rattle.field.specs.Residue.{Residue}
 use Rattle.field.specs.Extension.{Extension}
 use Rattle.field.specs.Quartic.{Quartic}
 use Rattle.matrix.specs.Matrix.{Matrix}
@@ -13,110 +14,110 @@ use Rattle.lookup_model.specs.Witness.{IsSatisfied}
 use Rattle.lookup_model.specs.declared.error.LookupError.{LookupError}
 use Rattle.lookup_model.specs.declared.types.Lookup.{Lookup}
 use Rattle.lookup_model.specs.declared.types.LookupTerminal.{LookupTerminal}
-use Rattle.lookup_tables.specs.Nodes.{BabyBear}
-use Rattle.lookup_tables.specs.Tables.{EncodeLookups}
-use Rattle.lookup_tables.specs.Traces.{AreCanonical}
+use Rattle.lookup_tables.specs.Tables.{TablesEncode}
+use Rattle.lookup_tables.specs.TraceNumbers.{AreNumbersOfTraces}
 use Rattle.lookup_tables.specs.declared.tables.Tables.{Tables}
 use Rattle.lookup_tables.specs.declared.traces.Traces.{Traces}
-use Rattle.lookup_c.specs.Inputs.{AreElements, IsListRefusal, IsTableRefusal, IsTracesRefusal, decoded_traces}
-use Rattle.lookup_c.specs.Outputs.{cells_of, terminal_numbers}
+use Rattle.lookup_c.specs.Inputs.{AreInputElements, IsInputListRefusal, IsInputTableRefusal, IsInputTracesRefusal, decoded_traces}
+use Rattle.lookup_c.specs.Outputs.{output_cells, terminal_numbers}
 use Rattle.lookup_c.specs.declared.fault.Fault.{Fault}
 use Rattle.lookup_c.specs.declared.fault.Fault.TheVariants.{Heights, Length, Lookup as OfLookup, Memory, Misfit}
 use Rattle.lookup_c.specs.declared.codes.Part.TheVariants.{Auxiliary, Challenges}
 use Rattle.lookup_c.specs.declared.generate.Generated.{Generated}
 use Rattle.lookup_c.specs.declared.outputs.Terminal.{Terminal}
 
-module _ (traces : AirTraces BabyBear) (lookups : List (Lookup BabyBear)) where
+module _ {F : Type 0} (traces : AirTraces F) (lookups : List (Lookup F)) where
   -- the lookups fit the traces, which have one height
-  pub record AreFitting : Type 0 where
+  pub record GenerateFits : Type 0 where
     pub fit : LookupsFit (layout_of traces) lookups
     pub heights : HaveOneHeight traces
 
   -- the lookups do not fit the traces
-  abbrev pub IsMisfit : Fault → Type 0
-  IsMisfit fault = (fault ≡ Misfit 0) × (¬ LookupsFit (layout_of traces) lookups)
+  abbrev pub IsGenerateMisfit : Fault → Type 0
+  IsGenerateMisfit fault = (fault ≡ Misfit 0) × (¬ LookupsFit (layout_of traces) lookups)
 
   -- the preprocessed trace has another height
-  abbrev pub HasOtherHeight : Fault → Type 0
-  HasOtherHeight fault = (fault ≡ Heights 0) × (¬ HaveOneHeight traces)
+  abbrev pub IsGenerateOtherHeight : Fault → Type 0
+  IsGenerateOtherHeight fault = (fault ≡ Heights 0) × (¬ HaveOneHeight traces)
 
   -- either of these
-  abbrev pub IsUnfit : Fault → Type 0
-  IsUnfit fault = IsMisfit fault ⊎ HasOtherHeight fault
+  abbrev pub IsGenerateUnfit : Fault → Type 0
+  IsGenerateUnfit fault = IsGenerateMisfit fault ⊎ IsGenerateOtherHeight fault
 
-module _ (E : Extension BabyBear (Quartic BabyBear)) (traces : AirTraces BabyBear) (challenges : List (Quartic BabyBear)) (lookups : List (Lookup BabyBear)) where
+module _ {F K : Type 0} (E : Extension F K) (traces : AirTraces F) (challenges : List K) (lookups : List (Lookup F)) where
   -- The plain result over these lookups, which fit the traces and have no fault; it satisfies the
   -- constraints.
-  pub record GeneratesOver (auxiliary : Matrix (Quartic BabyBear)) (terminal : Option (LookupTerminal (Quartic BabyBear))) : Type 0 where
-    pub fitting : AreFitting traces lookups
+  pub record CallGeneratesOver (auxiliary : Matrix K) (terminal : Option (LookupTerminal K)) : Type 0 where
+    pub fitting : GenerateFits traces lookups
     pub auxiliary_is : auxiliary ≡ plain_matrix E (key_denominator E challenges) lookups (sent_rows E.base E.base_eq traces lookups)
     pub terminal_is : terminal ≡ plain_terminal_of E (key_denominator E challenges) lookups (sent_rows E.base E.base_eq traces lookups)
     pub faultless : trace_faults E (key_denominator E challenges) (sent_rows E.base E.base_eq traces lookups) ≡ []
     pub satisfied : IsSatisfied E traces lookups challenges auxiliary terminal
 
   -- and what is generated, in one value
-  abbrev pub GeneratesLookups : Generated → Type 0
-  GeneratesLookups g = GeneratesOver g.auxiliary g.terminal
+  abbrev pub CallGeneratesLookups : Generated K → Type 0
+  CallGeneratesLookups g = CallGeneratesOver g.auxiliary g.terminal
 
   -- there are fewer than two challenges for each lookup
-  abbrev pub HasFewChallenges : Fault → Type 0
-  HasFewChallenges fault =
+  abbrev pub HasFewGenerateChallenges : Fault → Type 0
+  HasFewGenerateChallenges fault =
       (fault ≡ Length Challenges (min (length lookups * 2) (2 ^ 64 - 1)) (length challenges)) × (length challenges < 2 * length lookups)
 
-  -- the first fault of generation, over lookups that fit; or memory runs out
-  abbrev pub IsFirstFault : Fault → Type 0
-  IsFirstFault fault =
-      (fault ≡ Memory)
-      ⊎ ((error : LookupError) × (fault ≡ OfLookup 0 error)
-      × LookupsFit (layout_of traces) lookups
-      × (slice_get (trace_faults E (key_denominator E challenges) (sent_rows E.base E.base_eq traces lookups)) 0 ≡ Some error))
+  -- the lookups fit the traces, and this is the first fault of generation
+  pub record HasFirstGenerateFault (error : LookupError) : Type 0 where
+    pub fit : LookupsFit (layout_of traces) lookups
+    pub first : slice_get (trace_faults E (key_denominator E challenges) (sent_rows E.base E.base_eq traces lookups)) 0 ≡ Some error
+
+  -- the refusal of that fault; or memory runs out
+  abbrev pub IsFirstGenerateFault : Fault → Type 0
+  IsFirstGenerateFault fault = (fault ≡ Memory) ⊎ ((error : LookupError) × (fault ≡ OfLookup 0 error) × HasFirstGenerateFault error)
 
   -- the refusal of generation over these lookups
-  abbrev pub IsLookupsRefusal : Fault → Type 0
-  IsLookupsRefusal fault = IsUnfit traces lookups fault ⊎ (HasFewChallenges fault ⊎ IsFirstFault fault)
+  abbrev pub IsGenerateLookupsRefusal : Fault → Type 0
+  IsGenerateLookupsRefusal fault = IsGenerateUnfit traces lookups fault ⊎ (HasFewGenerateChallenges fault ⊎ IsFirstGenerateFault fault)
 
 -- there is not room for exactly the cells of a trace
-abbrev pub HasOtherLength : Matrix (Quartic BabyBear) → ℕ → Fault → Type 0
-HasOtherLength auxiliary room fault = (length auxiliary.values ≢ room) × (fault ≡ Length Auxiliary (length auxiliary.values) room)
+abbrev pub HasOtherGenerateRoom : {K : Type 0} → Matrix K → ℕ → Fault → Type 0
+HasOtherGenerateRoom auxiliary room fault = (length auxiliary.values ≢ room) × (fault ≡ Length Auxiliary (length auxiliary.values) room)
 
-module _ (Makes : Matrix (Quartic BabyBear) → Option (LookupTerminal (Quartic BabyBear)) → Type 0) where
+module _ {p : ℕ} (Makes : Matrix (Quartic (Residue p)) → Option (LookupTerminal (Quartic (Residue p))) → Type 0) where
   -- the numbers of an auxiliary trace and a terminal that are made so
-  pub record AreNumbersOf (cells : List (List ℕ)) (ending : Terminal) : Type 0 where
-    pub auxiliary : Matrix (Quartic BabyBear)
-    pub terminal : Option (LookupTerminal (Quartic BabyBear))
+  pub record AreGeneratedNumbers (cells : List (List ℕ)) (ending : Terminal) : Type 0 where
+    pub auxiliary : Matrix (Quartic (Residue p))
+    pub terminal : Option (LookupTerminal (Quartic (Residue p)))
     pub generates : Makes auxiliary terminal
-    pub cells_are : cells ≡ cells_of auxiliary
+    pub cells_are : cells ≡ output_cells auxiliary
     pub ending_is : ending ≡ terminal_numbers terminal
 
   -- there is not room for exactly the cells of what is made so
-  abbrev pub LacksRoom : ℕ → Fault → Type 0
-  LacksRoom room fault =
-      (auxiliary : Matrix (Quartic BabyBear)) × (terminal : Option (LookupTerminal (Quartic BabyBear))) × Makes auxiliary terminal × HasOtherLength auxiliary room fault
+  abbrev pub LacksGenerateRoom : ℕ → Fault → Type 0
+  LacksGenerateRoom room fault =
+      (auxiliary : Matrix (Quartic (Residue p))) × (terminal : Option (LookupTerminal (Quartic (Residue p)))) × Makes auxiliary terminal × HasOtherGenerateRoom auxiliary room fault
 
-module _ (E : Extension BabyBear (Quartic BabyBear)) (tables : Tables) (traces : Traces) (challenges : List (List ℕ)) where
+module _ {p : ℕ} (positive : 0 < p) (E : Extension (Residue p) (Quartic (Residue p))) (tables : Tables) (traces : Traces) (challenges : List (List ℕ)) where
   -- Generation over the one list of lookups that the tables encode, and over the traces and the challenges
   -- of these numbers, which are all below the modulus.
-  pub record GeneratesTables (auxiliary : Matrix (Quartic BabyBear)) (terminal : Option (LookupTerminal (Quartic BabyBear))) : Type 0 where
-    pub lookups : List (Lookup BabyBear)
-    pub encoded : EncodeLookups tables lookups
-    pub traces_below : AreCanonical traces
-    pub elements : List (Quartic BabyBear)
-    pub elements_are : AreElements challenges elements
-    pub generates : GeneratesOver E (decoded_traces traces) elements lookups auxiliary terminal
+  pub record CallGeneratesTables (auxiliary : Matrix (Quartic (Residue p))) (terminal : Option (LookupTerminal (Quartic (Residue p)))) : Type 0 where
+    pub lookups : List (Lookup (Residue p))
+    pub encoded : TablesEncode tables lookups
+    pub traces_below : AreNumbersOfTraces p traces
+    pub elements : List (Quartic (Residue p))
+    pub elements_are : AreInputElements positive challenges elements
+    pub generates : CallGeneratesOver E (decoded_traces positive traces) elements lookups auxiliary terminal
 
   -- the refusal of the tables, of the traces, of the challenges, or of generation
-  abbrev pub IsRefusal : Fault → Type 0
-  IsRefusal fault =
-      IsTableRefusal 0 tables fault
-      ⊎ (IsTracesRefusal 0 traces fault
-      ⊎ (IsListRefusal Challenges 0 challenges fault
-      ⊎ ((lookups : List (Lookup BabyBear)) × (elements : List (Quartic BabyBear)) × EncodeLookups tables lookups × AreElements challenges elements
-      × IsLookupsRefusal E (decoded_traces traces) elements lookups fault)))
+  abbrev pub IsGenerateRefusal : Fault → Type 0
+  IsGenerateRefusal fault =
+      IsInputTableRefusal p 0 tables fault
+      ⊎ (IsInputTracesRefusal p 0 traces fault
+      ⊎ (IsInputListRefusal p Challenges 0 challenges fault
+      ⊎ ((lookups : List (Lookup (Residue p))) × (elements : List (Quartic (Residue p))) × TablesEncode tables lookups × AreInputElements positive challenges elements
+      × IsGenerateLookupsRefusal E (decoded_traces positive traces) elements lookups fault)))
 
   -- the numbers of what is generated
-  abbrev pub GeneratesNumbers : List (List ℕ) → Terminal → Type 0
-  GeneratesNumbers cells ending = AreNumbersOf GeneratesTables cells ending
+  abbrev pub CallGeneratesNumbers : List (List ℕ) → Terminal → Type 0
+  CallGeneratesNumbers cells ending = AreGeneratedNumbers CallGeneratesTables cells ending
 
   -- the refusal of a call with room for so many cells
-  abbrev pub IsCallRefusal : ℕ → Fault → Type 0
-  IsCallRefusal room fault = IsRefusal fault ⊎ LacksRoom GeneratesTables room fault
+  abbrev pub IsGenerateCallRefusal : ℕ → Fault → Type 0
+  IsGenerateCallRefusal room fault = IsGenerateRefusal fault ⊎ LacksGenerateRoom CallGeneratesTables room fault

@@ -1,5 +1,5 @@
-pub mod Answers
 pub mod BatchTables
+pub mod CallAnswers
 pub mod Codes
 pub mod DebugCheck
 pub mod Degrees

@@ -1,48 +1,74 @@
--- One AIR of a planned batch, as calls on ranges of its rows read it.
-use Rattle.std.specs.Prelude.{◌≡◌, ◌≢◌, ◌⊎◌, ℕ, List, length}
+-- One AIR of a planned batch, as calls read it.
+use Rattle.std.specs.Prelude.{◌≡◌, ◌≢◌, ◌⊎◌, ◌<◌, ◌≤◌, ℕ, All, List, length}
+use Rattle.std.specs.Box.{boxed_slice_items}
+use Rattle.field.specs.Residue.{Residue}
 use Rattle.field.specs.Quartic.{Quartic}
 use Rattle.field.specs.Ring.{Ring}
-use Rattle.lookup_model.specs.Challenges.{ChallengeTable}
+use Rattle.expressions.specs.Faults.{HasFirstFault}
+use Rattle.lookup_model.specs.Challenges.{ChallengeTable, table_of}
+use Rattle.lookup_model.specs.declared.challenges.Challenges.{Challenges}
 use Rattle.lookup_model.specs.declared.types.Lookup.{Lookup}
 use Rattle.batch.specs.Tables.{made_table}
-use Rattle.lookup_tables.specs.Nodes.{BabyBear}
-use Rattle.lookup_tables.specs.Tables.{EncodeLookups}
-use Rattle.lookup_tables.specs.Traces.{AreCanonical}
+use Rattle.lookup_tables.specs.Tables.{TablesEncode}
+use Rattle.lookup_tables.specs.TraceNumbers.{AreNumbersOfTraces}
 use Rattle.lookup_tables.specs.declared.tables.Tables.{Tables}
 use Rattle.lookup_tables.specs.declared.traces.Traces.{Traces}
-use Rattle.lookup_c.specs.Generate.{AreFitting, IsUnfit}
-use Rattle.lookup_c.specs.GenerateByIds.{AreIdsOfPlan, IsIdsRefusal}
-use Rattle.lookup_c.specs.Inputs.{IsChallenge, IsChallengeRefusal, IsTableRefusal, IsTracesRefusal, decoded_traces}
+use Rattle.lookup_c.specs.Generate.{GenerateFits, IsGenerateUnfit}
+use Rattle.lookup_c.specs.Inputs.{IsInputChallenge, IsInputChallengeRefusal, IsInputTableRefusal, IsInputTracesRefusal, decoded_traces}
 use Rattle.lookup_c.specs.declared.fault.Fault.{Fault}
-use Rattle.lookup_c.specs.declared.fault.Fault.TheVariants.{Length}
+use Rattle.lookup_c.specs.declared.fault.Fault.TheVariants.{Id, Length, Memory, Width}
 use Rattle.lookup_c.specs.declared.codes.Part.TheVariants.{Alphas, Betas, Ids}
 use Rattle.lookup_c.specs.declared.plan.PlanSizes.{PlanSizes}
 
--- the challenges of all ids under a plan of these sizes
-abbrev pub plan_table : Ring (Quartic BabyBear) → PlanSizes → Quartic BabyBear → Quartic BabyBear → ChallengeTable (Quartic BabyBear)
-plan_table R sizes alpha beta = made_table R alpha beta sizes.max_message_width sizes.num_ids
+-- the ids are those of a plan of these sizes, whose tuples have a width
+pub record ArePlannedIds (ids : List ℕ) (sizes : PlanSizes) : Type 0 where
+  pub wide : 0 < sizes.max_message_width
+  pub below : All (λ id. id < sizes.num_ids) ids
 
-module _ (tables : Tables) (traces : Traces) (ids : List ℕ) (sizes : PlanSizes) (alpha beta : List ℕ) where
+-- the challenges of all ids under a plan of these sizes
+abbrev pub planned_table : {K : Type 0} → Ring K → PlanSizes → K → K → ChallengeTable K
+planned_table R sizes alpha beta = made_table R alpha beta sizes.max_message_width sizes.num_ids
+
+-- the challenges of a plan of these sizes, which has these ids
+pub record ArePlannedChallenges {K : Type 0} (R : Ring K) (ids : List ℕ) (sizes : PlanSizes) (alpha beta : K) (challenges : Challenges K) : Type 0 where
+  pub ids_are : ArePlannedIds ids sizes
+  pub table_is : table_of challenges ≡ planned_table R sizes alpha beta
+  pub has_prefixes : All (λ id. id < length (boxed_slice_items challenges.bus_prefix)) ids
+
+-- the refusal of the first id that is not below the number of ids
+abbrev pub IsFirstLargePlannedId : List ℕ → ℕ → Fault → Type 0
+IsFirstLargePlannedId ids num_ids fault = HasFirstFault (λ id. id < num_ids) (λ index id. (num_ids ≤ id) × (fault ≡ Id index)) ids
+
+-- the refusal of a width of zero, or of an id; or memory runs out
+abbrev pub IsPlannedIdsRefusal : List ℕ → PlanSizes → Fault → Type 0
+IsPlannedIdsRefusal ids sizes fault =
+    (fault ≡ Memory)
+    ⊎ (((fault ≡ Width) × (sizes.max_message_width ≡ 0)) ⊎ IsFirstLargePlannedId ids sizes.num_ids fault)
+
+module _ {p : ℕ} (positive : 0 < p) (tables : Tables) (traces : Traces) (ids : List ℕ) (sizes : PlanSizes) (alpha beta : List ℕ) where
   -- The one list of lookups that the tables encode, one for each id of the plan, over the traces of these
-  -- numbers, which they fit, and under alpha and beta; all numbers are below the modulus.
-  pub record IsPlannedAir (lookups : List (Lookup BabyBear)) (a b : Quartic BabyBear) : Type 0 where
-    pub encoded : EncodeLookups tables lookups
-    pub traces_below : AreCanonical traces
-    pub alpha_is : IsChallenge alpha a
-    pub beta_is : IsChallenge beta b
-    pub ids_are : AreIdsOfPlan ids sizes
+  -- numbers, and under alpha and beta; all numbers are below the modulus.
+  pub record IsPlannedInput (lookups : List (Lookup (Residue p))) (a b : Quartic (Residue p)) : Type 0 where
+    pub encoded : TablesEncode tables lookups
+    pub traces_below : AreNumbersOfTraces p traces
+    pub alpha_is : IsInputChallenge positive alpha a
+    pub beta_is : IsInputChallenge positive beta b
+    pub ids_are : ArePlannedIds ids sizes
     pub as_many : length ids ≡ length lookups
-    pub fitting : AreFitting (decoded_traces traces) lookups
+
+  -- the same, of lookups that fit the traces
+  pub record IsPlannedAir (lookups : List (Lookup (Residue p))) (a b : Quartic (Residue p)) : Type 0 where
+    pub read : IsPlannedInput lookups a b
+    pub fitting : GenerateFits (decoded_traces positive traces) lookups
 
   -- The refusal of the tables, of the traces, of a challenge, of the sizes or an id, of the number of ids, or of
   -- lookups that do not fit.
-  abbrev pub IsAirRefusal : Fault → Type 0
-  IsAirRefusal fault =
-      IsTableRefusal 0 tables fault
-      ⊎ (IsTracesRefusal 0 traces fault
-      ⊎ (IsChallengeRefusal Alphas alpha fault
-      ⊎ (IsChallengeRefusal Betas beta fault
-      ⊎ (IsIdsRefusal ids sizes fault
-      ⊎ ((lookups : List (Lookup BabyBear)) × EncodeLookups tables lookups
-      × (((length ids ≢ length lookups) × (fault ≡ Length Ids (length lookups) (length ids)))
-      ⊎ IsUnfit (decoded_traces traces) lookups fault))))))
+  abbrev pub IsPlannedAirRefusal : Fault → Type 0
+  IsPlannedAirRefusal fault =
+      IsInputTableRefusal p 0 tables fault
+      ⊎ (IsInputTracesRefusal p 0 traces fault
+      ⊎ (IsInputChallengeRefusal p Alphas alpha fault
+      ⊎ (IsInputChallengeRefusal p Betas beta fault
+      ⊎ (IsPlannedIdsRefusal ids sizes fault
+      ⊎ (((lookups : List (Lookup (Residue p))) × TablesEncode tables lookups × (length ids ≢ length lookups) × (fault ≡ Length Ids (length lookups) (length ids)))
+      ⊎ ((lookups : List (Lookup (Residue p))) × (a : Quartic (Residue p)) × (b : Quartic (Residue p)) × IsPlannedInput lookups a b × IsGenerateUnfit (decoded_traces positive traces) lookups fault))))))

@@ -42,29 +42,29 @@ abbrev pub no_refusal : Refusal
 no_refusal = refusal_numbers (of_code code.Ok)
 
 -- A refusal with each code has these fields alone; all others are 0.
-abbrev pub fields_of : Code → CodedRefusal → CodedRefusal
-fields_of code.BadTable r = record (of_code code.BadTable) { part = r.part; air = r.air; row = r.row; lookup = r.lookup }
-fields_of code.BadNumber r = record (of_code code.BadNumber) { part = r.part; air = r.air; row = r.row }
-fields_of code.BadLength r = record (of_code code.BadLength) { part = r.part; expected = r.expected; actual = r.actual }
-fields_of code.NoWholeRows r = record (of_code code.NoWholeRows) { part = r.part; air = r.air }
-fields_of code.DoesNotFit r = record (of_code code.DoesNotFit) { air = r.air }
-fields_of code.OtherHeight r = record (of_code code.OtherHeight) { part = r.part; air = r.air }
-fields_of code.VanishingDenominator r = record (of_code code.VanishingDenominator) { air = r.air; row = r.row; lookup = r.lookup }
-fields_of code.FlagNotBoolean r = record (of_code code.FlagNotBoolean) { air = r.air; row = r.row; lookup = r.lookup }
-fields_of code.FlagsNotExclusive r = record (of_code code.FlagsNotExclusive) { air = r.air; row = r.row; lookup = r.lookup }
-fields_of code.MalformedLookup r = record (of_code code.MalformedLookup) { air = r.air; lookup = r.lookup }
-fields_of code.BusWidths r = record (of_code code.BusWidths) { expected = r.expected; actual = r.actual }
-fields_of code.TupleWidths r = record (of_code code.TupleWidths) { expected = r.expected; actual = r.actual }
-fields_of code.TooManyIds r = record (of_code code.TooManyIds) { actual = r.actual }
-fields_of code.TraceMismatch r = record (of_code code.TraceMismatch) { air = r.air }
-fields_of code.TerminalPresence r = record (of_code code.TerminalPresence) { air = r.air; expected = r.expected; actual = r.actual }
-fields_of code.AuxiliaryWidth r = record (of_code code.AuxiliaryWidth) { air = r.air; expected = r.expected }
-fields_of code.AuxiliaryHeight r = record (of_code code.AuxiliaryHeight) { air = r.air }
-fields_of code.ConstraintFailed r = record (of_code code.ConstraintFailed) { air = r.air; row = r.row }
-fields_of code.WeightOverflow r = record (of_code code.WeightOverflow) { air = r.air }
-fields_of code.DegreeOverflow r = record (of_code code.DegreeOverflow) { air = r.air }
-fields_of code.Unmet r = record (of_code code.Unmet) { air = r.air }
-fields_of c r = of_code c
+abbrev pub refusal_fields : Code → CodedRefusal → CodedRefusal
+refusal_fields code.BadTable r = record (of_code code.BadTable) { part = r.part; air = r.air; row = r.row; lookup = r.lookup }
+refusal_fields code.BadNumber r = record (of_code code.BadNumber) { part = r.part; air = r.air; row = r.row }
+refusal_fields code.BadLength r = record (of_code code.BadLength) { part = r.part; expected = r.expected; actual = r.actual }
+refusal_fields code.NoWholeRows r = record (of_code code.NoWholeRows) { part = r.part; air = r.air }
+refusal_fields code.DoesNotFit r = record (of_code code.DoesNotFit) { air = r.air }
+refusal_fields code.OtherHeight r = record (of_code code.OtherHeight) { part = r.part; air = r.air }
+refusal_fields code.VanishingDenominator r = record (of_code code.VanishingDenominator) { air = r.air; row = r.row; lookup = r.lookup }
+refusal_fields code.FlagNotBoolean r = record (of_code code.FlagNotBoolean) { air = r.air; row = r.row; lookup = r.lookup }
+refusal_fields code.FlagsNotExclusive r = record (of_code code.FlagsNotExclusive) { air = r.air; row = r.row; lookup = r.lookup }
+refusal_fields code.MalformedLookup r = record (of_code code.MalformedLookup) { air = r.air; lookup = r.lookup }
+refusal_fields code.BusWidths r = record (of_code code.BusWidths) { expected = r.expected; actual = r.actual }
+refusal_fields code.TupleWidths r = record (of_code code.TupleWidths) { expected = r.expected; actual = r.actual }
+refusal_fields code.TooManyIds r = record (of_code code.TooManyIds) { actual = r.actual }
+refusal_fields code.TraceMismatch r = record (of_code code.TraceMismatch) { air = r.air }
+refusal_fields code.TerminalPresence r = record (of_code code.TerminalPresence) { air = r.air; expected = r.expected; actual = r.actual }
+refusal_fields code.AuxiliaryWidth r = record (of_code code.AuxiliaryWidth) { air = r.air; expected = r.expected }
+refusal_fields code.AuxiliaryHeight r = record (of_code code.AuxiliaryHeight) { air = r.air }
+refusal_fields code.ConstraintFailed r = record (of_code code.ConstraintFailed) { air = r.air; row = r.row }
+refusal_fields code.WeightOverflow r = record (of_code code.WeightOverflow) { air = r.air }
+refusal_fields code.DegreeOverflow r = record (of_code code.DegreeOverflow) { air = r.air }
+refusal_fields code.Unmet r = record (of_code code.Unmet) { air = r.air }
+refusal_fields c r = of_code c
 
 -- the refusal of a record of an AIR, for what is wrong with it and not where
 abbrev pub bad_table : ℕ → ℕ → RecordFault → CodedRefusal
@@ -140,10 +140,10 @@ refusal_of (Mismatch line) = of_code code.Mismatch
 refusal_of (Batch error) = batch_refusal error
 
 -- a field that the code of a refusal lacks is 0
-abbrev pub HasItsFields : CodedRefusal → Type 0
-HasItsFields r = r ≡ fields_of r.code r
+abbrev pub HasRefusalFields : CodedRefusal → Type 0
+HasRefusalFields r = r ≡ refusal_fields r.code r
 
 -- C sees this refusal of a fault, with the length of some text
 pub record IsRefusalOf (fault : Fault) (refusal : Refusal) : Type 0 where
   pub is : refusal ≡ record (refusal_numbers (refusal_of fault)) { text_length = refusal.text_length }
-  pub fields : HasItsFields (refusal_of fault)
+  pub fields : HasRefusalFields (refusal_of fault)

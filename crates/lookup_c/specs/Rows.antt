@@ -3,7 +3,6 @@ use Rattle.std.specs.Prelude.{◌≡◌, ◌≢◌, ◌⊎◌}
 use Rattle.air.specs.Traces.{AirTraces, height_of}
 use Rattle.lookup_ranges.specs.Around.{IsRange, rows_around}
 use Rattle.lookup_ranges.specs.declared.range.RowRange.{RowRange}
-use Rattle.lookup_tables.specs.Nodes.{BabyBear}
 use Rattle.lookup_c.specs.declared.codes.Part.TheVariants.{Rows as OfRows}
 use Rattle.lookup_c.specs.declared.fault.Fault.{Fault}
 use Rattle.lookup_c.specs.declared.fault.Fault.TheVariants.{Length, Rows as NoRange}
@@ -13,15 +12,15 @@ use Rattle.lookup_c.specs.declared.rows.Rows.{Rows}
 abbrev pub range_of : Rows → RowRange
 range_of rows = record { first = rows.first; end = rows.end; height = rows.height }
 
-module _ (rows : Rows) (around : AirTraces BabyBear) where
+module _ {F : Type 0} (rows : Rows) (around : AirTraces F) where
   -- The range has rows, and ends within the height. The traces have as many rows as stand around it.
-  pub record HasRowsAround : Type 0 where
+  pub record HasCallRowsAround : Type 0 where
     pub range : IsRange (range_of rows)
     pub many : height_of around ≡ rows_around rows.height rows.first rows.end
 
   -- the refusal of the range, or of the height of the traces
-  abbrev pub IsRangeRefusal : Fault → Type 0
-  IsRangeRefusal fault =
+  abbrev pub IsRowsRefusal : Fault → Type 0
+  IsRowsRefusal fault =
       ((fault ≡ NoRange) × (¬ IsRange (range_of rows)))
       ⊎ (IsRange (range_of rows)
       × (height_of around ≢ rows_around rows.height rows.first rows.end)

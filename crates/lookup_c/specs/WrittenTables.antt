@@ -1,8 +1,8 @@
 -- Tables that calls write.
 use Rattle.std.specs.Prelude.{◌≡◌, ◌⊎◌, ◌++◌, ◌<◌, ◌≤◌, ℕ, List, drop, length}
+use Rattle.field.specs.Residue.{Residue}
 use Rattle.lookup_model.specs.declared.types.Lookup.{Lookup}
-use Rattle.lookup_tables.specs.Nodes.{BabyBear}
-use Rattle.lookup_tables.specs.Written.{IsUnencodableAt, EncodesWritten}
+use Rattle.lookup_tables.specs.Written.{IsFirstUnwritable, WrittenEncodes}
 use Rattle.lookup_tables.specs.declared.nodes.Node.{Node}
 use Rattle.lookup_tables.specs.declared.tables.Record.{Record}
 use Rattle.lookup_tables.specs.declared.tables.Span.{Span}
@@ -14,28 +14,28 @@ use Rattle.lookup_c.specs.declared.codes.Part.TheVariants.{Names, Nodes, Records
 use Rattle.lookup_c.specs.declared.written_tables.TableSizes.{TableSizes}
 
 -- the arrays that a caller has for tables
-pub record Arrays : Type 0 where
+pub record TableArrays : Type 0 where
   pub nodes : List Node
   pub tuples : List Span
   pub names : List ℕ
   pub records : List Record
 
 -- the arrays of these parts
-abbrev pub arrays : List Node → List Span → List ℕ → List Record → Arrays
-arrays nodes tuples names records = record { nodes = nodes; tuples = tuples; names = names; records = records }
+abbrev pub table_arrays : List Node → List Span → List ℕ → List Record → TableArrays
+table_arrays nodes tuples names records = record { nodes = nodes; tuples = tuples; names = names; records = records }
 
 -- their lengths
-abbrev pub room_of : Arrays → TableSizes
-room_of a = record { nodes = length a.nodes; tuples = length a.tuples; names = length a.names; records = length a.records }
+abbrev pub room_of_arrays : TableArrays → TableSizes
+room_of_arrays a = record { nodes = length a.nodes; tuples = length a.tuples; names = length a.names; records = length a.records }
 
 -- the sizes of tables that are made
-abbrev pub sizes_of : Written → TableSizes
-sizes_of w = room_of (arrays w.nodes.items w.tuples.items w.names.items w.records.items)
+abbrev pub sizes_of_written : Written → TableSizes
+sizes_of_written w = room_of_arrays (table_arrays w.nodes.items w.tuples.items w.names.items w.records.items)
 
 -- the refusal of the first lookup that no tables encode; or memory runs out
-abbrev pub IsUnencodableRefusal : List (Lookup BabyBear) → Fault → Type 0
-IsUnencodableRefusal lookups fault =
-    (fault ≡ Memory) ⊎ ((i : ℕ) × (reason : TableFault) × (fault ≡ Table 0 i reason) × IsUnencodableAt lookups i reason)
+abbrev pub IsUnwritableRefusal : {p : ℕ} → List (Lookup (Residue p)) → Fault → Type 0
+IsUnwritableRefusal lookups fault =
+    (fault ≡ Memory) ⊎ ((i : ℕ) × (reason : TableFault) × (fault ≡ Table 0 i reason) × IsFirstUnwritable lookups i reason)
 
 -- arrays of the second sizes have room for tables of the first ones
 pub record HasTableRoom (sizes room : TableSizes) : Type 0 where
@@ -53,20 +53,20 @@ IsTableRoomRefusal sizes room fault =
     ⊎ ((sizes.names ≤ room.names) × (room.records < sizes.records) × (fault ≡ Length Records sizes.records room.records))))))
 
 -- the refusal of lookups that are to be written: that no tables encode one, or that there is no room for them
-abbrev pub IsWritingRefusal : List (Lookup BabyBear) → TableSizes → Fault → Type 0
-IsWritingRefusal lookups room fault =
-    IsUnencodableRefusal lookups fault
-    ⊎ ((made : Written) × EncodesWritten made lookups × IsTableRoomRefusal (sizes_of made) room fault)
+abbrev pub IsTableWritingRefusal : {p : ℕ} → List (Lookup (Residue p)) → TableSizes → Fault → Type 0
+IsTableWritingRefusal lookups room fault =
+    IsUnwritableRefusal lookups fault
+    ⊎ ((made : Written) × WrittenEncodes made lookups × IsTableRoomRefusal (sizes_of_written made) room fault)
 
 -- items are written over those at the start of an array
 abbrev pub written_over : {A : Type 0} → List A → List A → List A
 written_over items before = items ++ drop (length items) before
 
 -- Tables are written over the start of each array, with their sizes.
-pub record WritesTables (made : Written) (before after : Arrays) (sizes : TableSizes) : Type 0 where
-  pub room : HasTableRoom (sizes_of made) (room_of before)
+pub record WritesTables (made : Written) (before after : TableArrays) (sizes : TableSizes) : Type 0 where
+  pub room : HasTableRoom (sizes_of_written made) (room_of_arrays before)
   pub nodes : after.nodes ≡ written_over made.nodes.items before.nodes
   pub tuples : after.tuples ≡ written_over made.tuples.items before.tuples
   pub names : after.names ≡ written_over made.names.items before.names
   pub records : after.records ≡ written_over made.records.items before.records
-  pub sizes_are : sizes ≡ sizes_of made
+  pub sizes_are : sizes ≡ sizes_of_written made

@@ -1,28 +1,34 @@
 //! The call that finds the first tuple that does not balance.
 ghost use Rattle.std.specs.Prelude.{◌≡◌, ◌≢◌, ◌⊎◌, MatchResult, length, map};
+ghost use Rattle.field.specs.laws.BabyBear.{baby_bear_positive};
 ghost use Rattle.lookup_debug.specs.Contributions.{AreFitting, IsTracedFitting, traced_of};
-ghost use Rattle.lookup_c.specs.DebugCheck.{AreDebugInstances, AreTableSets, DebugChecksTables, ChecksTraced, IsCallRefusal, IsMisfitAt, IsMismatchRefusal, IsTableSetsRefusal, IsUnfitAmong, all_traced, traced_tables};
-ghost use Rattle.lookup_c.specs.Answers.{Answers};
+ghost use Rattle.lookup_c.specs.DebugCheck.{AreDebugInstances, AreDebugSets, DebugChecksTables, DebugChecksTraced, IsDebugCheckRefusal, IsDebugMisfit, IsDebugMismatch, IsDebugSetsRefusal, IsFirstDebugMisfit, all_debug_traced, debug_traced};
+ghost use Rattle.lookup_c.specs.CallAnswers.{CallAnswers};
 
 use crate::batch_tables::{all_traces, set_of};
 use crate::codes::Part;
 use crate::fault::Fault;
 use crate::refusal::{Refusal, accept, refuse};
 use expressions::AirLayout;
-use field::{BabyBear, BabyBear4, Over};
+use field::{
+    BabyBear, BabyBear4, BabyBearParameters, MontyField31, MontyQuartic, Over, QuarticParameters,
+};
 use lookup::debug_util::{LookupDebugInstance, LookupFault, check_lookups};
 use lookup::{Lookups, fits};
 use lookup_tables::{ReadTraces, Tables, Traces};
 use std::alloc::Global;
 
 /// The sets of lookups that tables encode, AIR by AIR.
-fn table_sets(alloc: Global, airs: &[Tables<'_>]) -> Result<Vec<Lookups<BabyBear>>, Fault>
-    ensures { MatchResult result (λ v. AreTableSets airs.now v.items)
-        (IsTableSetsRefusal airs.now) }
+fn table_sets<const P: u32, K: QuarticParameters<P>>(
+    alloc: Global,
+    airs: &[Tables<'_>],
+) -> Result<Vec<Lookups<MontyField31<P, K>>>, Fault>
+    ensures { MatchResult result (λ v. AreDebugSets airs.now v.items)
+        (IsDebugSetsRefusal P airs.now) }
 {
     let mut sets = Vec::with_capacity(alloc, airs.len())?;
     for (index, air) in airs.iter().enumerate() {
-        sets.push(set_of(alloc, index, air)?)?;
+        sets.push(set_of::<P, K>(alloc, index, air)?)?;
     }
     Ok(sets)
 }
@@ -30,14 +36,14 @@ fn table_sets(alloc: Global, airs: &[Tables<'_>]) -> Result<Vec<Lookups<BabyBear
 /// What the debug check is given of an AIR.
 ///
 /// Refuses lookups that do not fit the traces, and then a preprocessed trace of another height.
-fn debug_instance<'a>(
+fn debug_instance<'a, const P: u32, K: QuarticParameters<P>>(
     air: usize,
-    set: &'a Lookups<BabyBear>,
-    traces: &'a ReadTraces,
-) -> Result<LookupDebugInstance<'a, BabyBear>, Fault>
+    set: &'a Lookups<MontyField31<P, K>>,
+    traces: &'a ReadTraces<MontyField31<P, K>>,
+) -> Result<LookupDebugInstance<'a, MontyField31<P, K>>, Fault>
     ensures { MatchResult result
-        (λ i. (traced_of i ≡ traced_tables set.now traces.now) × IsTracedFitting (traced_of i))
-        (IsMisfitAt air (traced_tables set.now traces.now)) }
+        (λ i. (traced_of i ≡ debug_traced set.now traces.now) × IsTracedFitting (traced_of i))
+        (IsDebugMisfit air (debug_traced set.now traces.now)) }
 {
     let preprocessed = traces.preprocessed.as_ref();
     let public_values = traces.public_values.as_slice();
@@ -62,14 +68,15 @@ fn debug_instance<'a>(
 /// What the debug check is given of all AIRs.
 ///
 /// Refuses the first AIR whose lookups do not fit its traces.
-fn debug_instances<'a>(
+fn debug_instances<'a, const P: u32, K: QuarticParameters<P>>(
     alloc: Global,
-    sets: &'a [Lookups<BabyBear>],
-    traces: &'a [ReadTraces],
-) -> Result<Vec<LookupDebugInstance<'a, BabyBear>>, Fault>
+    sets: &'a [Lookups<MontyField31<P, K>>],
+    traces: &'a [ReadTraces<MontyField31<P, K>>],
+) -> Result<Vec<LookupDebugInstance<'a, MontyField31<P, K>>>, Fault>
     requires { length sets.now ≡ length traces.now }
     ensures { MatchResult result (AreDebugInstances sets.now traces.now)
-        (λ fault. (fault ≡ Fault.Memory) ⊎ IsUnfitAmong (all_traced sets.now traces.now) fault) }
+        (λ fault. (fault ≡ Fault.Memory)
+        ⊎ IsFirstDebugMisfit (all_debug_traced sets.now traces.now) fault) }
 {
     let mut instances = Vec::with_capacity(alloc, sets.len())?;
     for air in 0..sets.len() {
@@ -81,14 +88,15 @@ fn debug_instances<'a>(
 /// Checks that all tuples balance.
 ///
 /// Refuses the first mismatch, with its text.
-fn check_instances(
+fn check_instances<const P: u32, K: QuarticParameters<P>>(
     alloc: Global,
-    instances: &[LookupDebugInstance<'_, BabyBear>],
+    instances: &[LookupDebugInstance<'_, MontyField31<P, K>>],
 ) -> Result<(), Fault>
     requires { AreFitting instances.now }
-    ensures { let E = ⟦<BabyBear4 as Over<BabyBear>>⟧.fields in MatchResult result
-        (λ _. ChecksTraced E (map traced_of instances.now))
-        (IsMismatchRefusal E (map traced_of instances.now)) }
+    ensures { let E = ⟦<MontyQuartic<P, K> as Over<MontyField31<P, K>>>⟧.fields in
+        MatchResult result
+        (λ _. DebugChecksTraced E (map traced_of instances.now))
+        (IsDebugMismatch E (map traced_of instances.now)) }
 {
     match check_lookups(alloc, instances) {
         Ok(()) => Ok(()),
@@ -100,10 +108,14 @@ fn check_instances(
 }
 
 /// Checks what tables encode.
-fn check_tables(alloc: Global, airs: &[Tables<'_>], traces: &[Traces<'_>]) -> Result<(), Fault>
-    ensures { let E = ⟦<BabyBear4 as Over<BabyBear>>⟧.fields in
-        MatchResult result (λ _. DebugChecksTables E airs.now traces.now)
-        (IsCallRefusal E airs.now traces.now) }
+fn check_tables<const P: u32, K: QuarticParameters<P>>(
+    alloc: Global,
+    airs: &[Tables<'_>],
+    traces: &[Traces<'_>],
+) -> Result<(), Fault>
+    ensures { let E = ⟦<MontyQuartic<P, K> as Over<MontyField31<P, K>>>⟧.fields in
+        MatchResult result (λ _. DebugChecksTables K.positive E airs.now traces.now)
+        (IsDebugCheckRefusal K.positive E airs.now traces.now) }
 {
     if traces.len() != airs.len() {
         return Err(Fault::Length {
@@ -112,10 +124,28 @@ fn check_tables(alloc: Global, airs: &[Tables<'_>], traces: &[Traces<'_>]) -> Re
             actual: traces.len(),
         });
     }
-    let sets = table_sets(alloc, airs)?;
-    let all = all_traces(alloc, traces)?;
+    let sets = table_sets::<P, K>(alloc, airs)?;
+    let all = all_traces::<P, K>(alloc, traces)?;
     let instances = debug_instances(alloc, &sets, &all)?;
     check_instances(alloc, &instances)
+}
+
+/// The answer of `volgwain_debug_check`, over any prime field below 2^31.
+pub(crate) fn answer_debug_check<const P: u32, K: QuarticParameters<P>>(
+    alloc: Global,
+    airs: &[Tables<'_>],
+    traces: &[Traces<'_>],
+    refusal: &mut Refusal,
+    text: &mut [u8],
+) -> u32
+    ensures answers { let E = ⟦<MontyQuartic<P, K> as Over<MontyField31<P, K>>>⟧.fields in
+        CallAnswers result refusal.new (DebugChecksTables K.positive E airs.now traces.now)
+        (IsDebugCheckRefusal K.positive E airs.now traces.now) }
+{
+    match check_tables::<P, K>(alloc, airs, traces) {
+        Ok(()) => accept(refusal),
+        Err(fault) => refuse(&fault, refusal, text),
+    }
 }
 
 /// Checks that all tuples balance: those of each local lookup by itself, and then those of each bus.
@@ -131,11 +161,8 @@ pub extern "C" fn volgwain_debug_check(
     text: &mut [u8],
 ) -> u32
     ensures answers { let E = ⟦<BabyBear4 as Over<BabyBear>>⟧.fields in
-        Answers result refusal.new (DebugChecksTables E airs.now traces.now)
-        (IsCallRefusal E airs.now traces.now) }
+        CallAnswers result refusal.new (DebugChecksTables baby_bear_positive E airs.now traces.now)
+        (IsDebugCheckRefusal baby_bear_positive E airs.now traces.now) }
 {
-    match check_tables(alloc, airs, traces) {
-        Ok(()) => accept(refusal),
-        Err(fault) => refuse(&fault, refusal, text),
-    }
+    answer_debug_check::<2_013_265_921, BabyBearParameters>(alloc, airs, traces, refusal, text)
 }

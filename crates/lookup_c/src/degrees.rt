@@ -2,14 +2,14 @@
 ghost use Rattle.std.specs.Prelude.{◌≡◌, ◌≢◌, MatchResult, length, map};
 ghost use Rattle.lookup.specs.Lookups.{lookups_of};
 ghost use Rattle.lookup_model.specs.LookupDegree.{lookup_degree};
-ghost use Rattle.lookup_c.specs.Degrees.{GivesDegrees, IsDegreeRefusal, IsCallRefusal};
-ghost use Rattle.lookup_c.specs.Answers.{Answers};
+ghost use Rattle.lookup_c.specs.Degrees.{CallGivesDegrees, IsLargeDegreesRefusal, IsDegreesRefusal};
+ghost use Rattle.lookup_c.specs.CallAnswers.{CallAnswers};
 
 use crate::batch_tables::set_of;
 use crate::codes::Part;
 use crate::fault::Fault;
 use crate::refusal::{Refusal, accept, refuse};
-use field::BabyBear;
+use field::{BabyBearParameters, MontyField31, QuarticParameters};
 use lookup::Lookups;
 use lookup_model::constraint_degree;
 use lookup_tables::Tables;
@@ -18,9 +18,12 @@ use std::alloc::Global;
 /// The degrees of the lookups of a set.
 ///
 /// Refuses the first one that does not fit.
-fn degrees_of(alloc: Global, set: &Lookups<BabyBear>) -> Result<Vec<usize>, Fault>
+fn degrees_of<const P: u32, K: QuarticParameters<P>>(
+    alloc: Global,
+    set: &Lookups<MontyField31<P, K>>,
+) -> Result<Vec<usize>, Fault>
     ensures { MatchResult result (λ v. v.items ≡ map (lookup_degree 0) (lookups_of set.now))
-        (IsDegreeRefusal (lookups_of set.now)) }
+        (IsLargeDegreesRefusal (lookups_of set.now)) }
 {
     let lookups = set.as_slice();
     let mut degrees = Vec::with_capacity(alloc, lookups.len())?;
@@ -34,12 +37,17 @@ fn degrees_of(alloc: Global, set: &Lookups<BabyBear>) -> Result<Vec<usize>, Faul
 }
 
 /// The degrees of the lookups that tables encode, for room for so many.
-fn degrees_into_room(alloc: Global, tables: &Tables<'_>, room: usize) -> Result<Vec<usize>, Fault>
-    ensures { MatchResult result (λ v. GivesDegrees tables.now v.items × (length v.items ≡ room))
-        (IsCallRefusal tables.now room) }
+fn degrees_into_room<const P: u32, K: QuarticParameters<P>>(
+    alloc: Global,
+    tables: &Tables<'_>,
+    room: usize,
+) -> Result<Vec<usize>, Fault>
+    ensures { MatchResult result
+        (λ v. CallGivesDegrees P tables.now v.items × (length v.items ≡ room))
+        (IsDegreesRefusal P tables.now room) }
 {
-    let set = set_of(alloc, 0, tables)?;
-    let degrees = degrees_of(alloc, &set)?;
+    let set = set_of::<P, K>(alloc, 0, tables)?;
+    let degrees = degrees_of::<P, K>(alloc, &set)?;
     if degrees.len() != room {
         return Err(Fault::Length {
             part: Part::Degrees,
@@ -48,6 +56,27 @@ fn degrees_into_room(alloc: Global, tables: &Tables<'_>, room: usize) -> Result<
         });
     }
     Ok(degrees)
+}
+
+/// The answer of `volgwain_degrees`, over any prime field below 2^31.
+pub(crate) fn answer_degrees<const P: u32, K: QuarticParameters<P>>(
+    alloc: Global,
+    tables: &Tables<'_>,
+    degrees: &mut [usize],
+    refusal: &mut Refusal,
+    text: &mut [u8],
+) -> u32
+    ensures answers { CallAnswers result refusal.new (CallGivesDegrees P tables.now degrees.new)
+        (IsDegreesRefusal P tables.now (length degrees.old)) }
+    ensures kept { result ≢ 0 → degrees.new ≡ degrees.old }
+{
+    match degrees_into_room::<P, K>(alloc, tables, degrees.len()) {
+        Ok(made) => {
+            degrees.copy_from_slice(&made);
+            accept(refusal)
+        }
+        Err(fault) => refuse(&fault, refusal, text),
+    }
 }
 
 /// Gives the degree of the constraint of each lookup of an AIR.
@@ -61,15 +90,10 @@ pub extern "C" fn volgwain_degrees(
     refusal: &mut Refusal,
     text: &mut [u8],
 ) -> u32
-    ensures answers { Answers result refusal.new (GivesDegrees tables.now degrees.new)
-        (IsCallRefusal tables.now (length degrees.old)) }
+    ensures answers { CallAnswers result refusal.new
+        (CallGivesDegrees 2013265921 tables.now degrees.new)
+        (IsDegreesRefusal 2013265921 tables.now (length degrees.old)) }
     ensures kept { result ≢ 0 → degrees.new ≡ degrees.old }
 {
-    match degrees_into_room(alloc, tables, degrees.len()) {
-        Ok(made) => {
-            degrees.copy_from_slice(&made);
-            accept(refusal)
-        }
-        Err(fault) => refuse(&fault, refusal, text),
-    }
+    answer_degrees::<2_013_265_921, BabyBearParameters>(alloc, tables, degrees, refusal, text)
 }

@@ -1,6 +1,7 @@
 //! Why a call is refused, before it is written for C.
 ghost use Rattle.std.specs.Prelude.{◌≡◌};
 ghost use Rattle.lookup_c.specs.declared.fault.Fault.TheVariants.{Batch, Memory};
+ghost use Rattle.lookup_c.specs.internal.Faults.{IsLookupFault};
 
 use crate::codes::Part;
 use batch::BatchError;
@@ -108,5 +109,15 @@ impl<T: Drop> From<AllocFailed<T>> for Fault {
 
     fn from(_error: AllocFailed<T>) -> Fault {
         Fault::Memory
+    }
+}
+
+/// Why the lookups of an AIR that is alone are refused.
+pub(crate) fn lookup_fault(error: LookupError) -> Fault
+    ensures { IsLookupFault error result }
+{
+    match error {
+        LookupError::Memory => Fault::Memory,
+        error => Fault::Lookup { air: 0, error },
     }
 }

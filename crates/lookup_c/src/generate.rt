@@ -1,18 +1,22 @@
 //! The call that generates the auxiliary trace of one AIR.
-ghost use Rattle.std.specs.Prelude.{◌≡◌, ◌≢◌, MatchResult, length};
-ghost use Rattle.lookup_c.specs.Answers.{Answers};
-ghost use Rattle.lookup_c.specs.Generate.{AreFitting, GeneratesLookups, GeneratesNumbers, GeneratesTables, IsCallRefusal, IsLookupsRefusal, IsRefusal, IsUnfit};
+ghost use Rattle.std.specs.Prelude.{◌≡◌, ◌≢◌, ◌≤◌, ◌*◌, MatchResult, length};
+ghost use Rattle.field.specs.laws.BabyBear.{baby_bear_positive};
+ghost use Rattle.air.specs.Traces.{HaveOneHeight, traces_of};
+ghost use Rattle.lookup_c.specs.CallAnswers.{CallAnswers};
+ghost use Rattle.lookup_c.specs.Generate.{GenerateFits, CallGeneratesLookups, CallGeneratesNumbers, CallGeneratesTables, IsGenerateCallRefusal, IsFirstGenerateFault, IsGenerateLookupsRefusal, IsGenerateRefusal, IsGenerateUnfit};
 ghost use Rattle.lookup_c.specs.Inputs.{view_of_read};
 ghost use Rattle.lookup_c.specs.internal.Generate.{AreNumbersOfGenerated, IsNotWritten};
 
 use crate::codes::Part;
-use crate::fault::Fault;
+use crate::fault::{Fault, lookup_fault};
 use crate::inputs::{list_of, lookups_of, traces_of};
 use crate::outputs::{Terminal, terminal_numbers, write_elements};
 use crate::refusal::{Refusal, accept, refuse};
 use expressions::AirLayout;
-use field::{BabyBear, BabyBear4, Over};
-use lookup::{Lookup, LookupError, LookupTerminal, fits};
+use field::{
+    BabyBear, BabyBear4, BabyBearParameters, MontyField31, MontyQuartic, Over, QuarticParameters,
+};
+use lookup::{Lookup, LookupTerminal, fits};
 use lookup_generation::generate_permutation;
 use lookup_tables::{ReadTraces, Tables, Traces};
 use matrix::RowMajorMatrix;
@@ -20,15 +24,18 @@ use std::alloc::Global;
 
 /// The auxiliary trace of an AIR, and its terminal.
 #[derive(Drop)]
-pub(crate) struct Generated {
-    pub(crate) auxiliary: RowMajorMatrix<BabyBear4>,
-    pub(crate) terminal: Option<LookupTerminal<BabyBear4>>,
+pub(crate) struct Generated<EF> {
+    pub(crate) auxiliary: RowMajorMatrix<EF>,
+    pub(crate) terminal: Option<LookupTerminal<EF>>,
 }
 
 /// Whether lookups fit the traces of their AIR, and these have one height.
-pub(crate) fn check_fit(traces: &ReadTraces, lookups: &[Lookup<BabyBear>]) -> Result<(), Fault>
-    ensures { MatchResult result (λ _. AreFitting (view_of_read traces.now) lookups.now)
-        (IsUnfit (view_of_read traces.now) lookups.now) }
+pub(crate) fn check_fit<const P: u32, K: QuarticParameters<P>>(
+    traces: &ReadTraces<MontyField31<P, K>>,
+    lookups: &[Lookup<MontyField31<P, K>>],
+) -> Result<(), Fault>
+    ensures { MatchResult result (λ _. GenerateFits (view_of_read traces.now) lookups.now)
+        (IsGenerateUnfit (view_of_read traces.now) lookups.now) }
 {
     let main = &traces.main;
     let preprocessed = traces.preprocessed.as_ref();
@@ -44,16 +51,54 @@ pub(crate) fn check_fit(traces: &ReadTraces, lookups: &[Lookup<BabyBear>]) -> Re
     Ok(())
 }
 
-/// Generates over lookups.
-pub(crate) fn generate_lookups(
+/// The traces of an AIR as one value.
+pub(crate) fn traces_as_one<const P: u32, K: QuarticParameters<P>>(
+    traces: &ReadTraces<MontyField31<P, K>>,
+) -> air::Traces<'_, MontyField31<P, K>>
+    requires { HaveOneHeight (view_of_read traces.now) }
+    ensures { traces_of result ≡ view_of_read traces.now }
+{
+    air::Traces {
+        main: &traces.main,
+        preprocessed: traces.preprocessed.as_ref(),
+        public_values: traces.public_values.as_slice(),
+    }
+}
+
+/// Generates over lookups that fit the traces.
+pub(crate) fn generate_fitting<const P: u32, K: QuarticParameters<P>>(
     alloc: Global,
-    traces: &ReadTraces,
-    lookups: &[Lookup<BabyBear>],
-    challenges: &[BabyBear4],
-) -> Result<Generated, Fault>
-    ensures { let E = ⟦<BabyBear4 as Over<BabyBear>>⟧.fields in MatchResult result
-        (GeneratesLookups E (view_of_read traces.now) challenges.now lookups.now)
-        (IsLookupsRefusal E (view_of_read traces.now) challenges.now lookups.now) }
+    traces: &ReadTraces<MontyField31<P, K>>,
+    lookups: &[Lookup<MontyField31<P, K>>],
+    challenges: &[MontyQuartic<P, K>],
+) -> Result<Generated<MontyQuartic<P, K>>, Fault>
+    requires fit { GenerateFits (view_of_read traces.now) lookups.now }
+    requires challenges { 2 * length lookups.now ≤ length challenges.now }
+    ensures { let E = ⟦<MontyQuartic<P, K> as Over<MontyField31<P, K>>>⟧.fields in
+        MatchResult result
+        (CallGeneratesLookups E (view_of_read traces.now) challenges.now lookups.now)
+        (IsFirstGenerateFault E (view_of_read traces.now) challenges.now lookups.now) }
+{
+    match generate_permutation(alloc, &traces_as_one(traces), lookups, challenges) {
+        Ok((auxiliary, terminal)) => Ok(Generated {
+            auxiliary,
+            terminal,
+        }),
+        Err(error) => Err(lookup_fault(error)),
+    }
+}
+
+/// Generates over lookups.
+fn generate_lookups<const P: u32, K: QuarticParameters<P>>(
+    alloc: Global,
+    traces: &ReadTraces<MontyField31<P, K>>,
+    lookups: &[Lookup<MontyField31<P, K>>],
+    challenges: &[MontyQuartic<P, K>],
+) -> Result<Generated<MontyQuartic<P, K>>, Fault>
+    ensures { let E = ⟦<MontyQuartic<P, K> as Over<MontyField31<P, K>>>⟧.fields in
+        MatchResult result
+        (CallGeneratesLookups E (view_of_read traces.now) challenges.now lookups.now)
+        (IsGenerateLookupsRefusal E (view_of_read traces.now) challenges.now lookups.now) }
 {
     check_fit(traces, lookups)?;
     if challenges.len() / 2 < lookups.len() {
@@ -63,52 +108,42 @@ pub(crate) fn generate_lookups(
             actual: challenges.len(),
         });
     }
-    let traces = air::Traces {
-        main: &traces.main,
-        preprocessed: traces.preprocessed.as_ref(),
-        public_values: traces.public_values.as_slice(),
-    };
-    match generate_permutation(alloc, &traces, lookups, challenges) {
-        Ok((auxiliary, terminal)) => Ok(Generated {
-            auxiliary,
-            terminal,
-        }),
-        Err(LookupError::Memory) => Err(Fault::Memory),
-        Err(error) => Err(Fault::Lookup { air: 0, error }),
-    }
+    generate_fitting(alloc, traces, lookups, challenges)
 }
 
 /// Generates over what tables encode.
 ///
 /// Refuses the first of these with a fault: the tables, the traces, the challenges, whether the lookups
 /// fit the traces, the heights of the traces, the number of challenges, and the generation.
-fn generate_tables(
+fn generate_tables<const P: u32, K: QuarticParameters<P>>(
     alloc: Global,
     tables: &Tables<'_>,
     traces: &Traces<'_>,
     challenges: &[[u32; 4]],
-) -> Result<Generated, Fault>
-    ensures { let E = ⟦<BabyBear4 as Over<BabyBear>>⟧.fields in MatchResult result
-        (λ g. GeneratesTables E tables.now traces.now challenges.now g.auxiliary g.terminal)
-        (IsRefusal E tables.now traces.now challenges.now) }
+) -> Result<Generated<MontyQuartic<P, K>>, Fault>
+    ensures { let E = ⟦<MontyQuartic<P, K> as Over<MontyField31<P, K>>>⟧.fields in
+        MatchResult result
+        (λ g. CallGeneratesTables K.positive E tables.now traces.now challenges.now g.auxiliary
+        g.terminal)
+        (IsGenerateRefusal K.positive E tables.now traces.now challenges.now) }
 {
-    let lookups = lookups_of(alloc, 0, tables)?;
-    let traces = traces_of(alloc, 0, traces)?;
-    let challenges = list_of(alloc, Part::Challenges, 0, challenges)?;
+    let lookups = lookups_of::<P, K>(alloc, 0, tables)?;
+    let traces = traces_of::<P, K>(alloc, 0, traces)?;
+    let challenges = list_of::<P, K>(alloc, Part::Challenges, 0, challenges)?;
     generate_lookups(alloc, &traces, &lookups, &challenges)
 }
 
 /// Writes what was generated for one AIR, or why it was not, and returns the code.
 ///
 /// Refuses a caller that does not have room for exactly the cells.
-pub(crate) fn write_generated(
-    generated: Result<Generated, Fault>,
+pub(crate) fn write_generated<const P: u32, K: QuarticParameters<P>>(
+    generated: Result<Generated<MontyQuartic<P, K>>, Fault>,
     auxiliary: &mut [[u32; 4]],
     terminal: &mut Terminal,
     refusal: &mut Refusal,
     text: &mut [u8],
 ) -> u32
-    ensures answers { Answers result refusal.new
+    ensures answers { CallAnswers result refusal.new
         (AreNumbersOfGenerated generated auxiliary.new terminal.new)
         (IsNotWritten generated (length auxiliary.old)) }
     ensures kept { result ≢ 0
@@ -133,6 +168,30 @@ pub(crate) fn write_generated(
     }
 }
 
+/// The answer of `volgwain_generate`, over any prime field below 2^31.
+pub(crate) fn answer_generate<const P: u32, K: QuarticParameters<P>>(
+    alloc: Global,
+    tables: &Tables<'_>,
+    traces: &Traces<'_>,
+    challenges: &[[u32; 4]],
+    auxiliary: &mut [[u32; 4]],
+    terminal: &mut Terminal,
+    refusal: &mut Refusal,
+    text: &mut [u8],
+) -> u32
+    ensures answers { let E = ⟦<MontyQuartic<P, K> as Over<MontyField31<P, K>>>⟧.fields in
+        CallAnswers result refusal.new
+        (CallGeneratesNumbers K.positive E tables.now traces.now challenges.now auxiliary.new
+        terminal.new)
+        (IsGenerateCallRefusal K.positive E tables.now traces.now challenges.now
+        (length auxiliary.old)) }
+    ensures kept { result ≢ 0
+        → (auxiliary.new ≡ auxiliary.old) × (terminal.new ≡ terminal.old) }
+{
+    let generated = generate_tables::<P, K>(alloc, tables, traces, challenges);
+    write_generated(generated, auxiliary, terminal, refusal, text)
+}
+
 /// Generates the auxiliary trace of one AIR, and its terminal.
 ///
 /// The challenges are an alpha and a beta for each lookup; further ones are ignored. The auxiliary trace
@@ -152,12 +211,16 @@ pub extern "C" fn volgwain_generate(
     refusal: &mut Refusal,
     text: &mut [u8],
 ) -> u32
-    ensures answers { let E = ⟦<BabyBear4 as Over<BabyBear>>⟧.fields in Answers result refusal.new
-        (GeneratesNumbers E tables.now traces.now challenges.now auxiliary.new terminal.new)
-        (IsCallRefusal E tables.now traces.now challenges.now (length auxiliary.old)) }
+    ensures answers { let E = ⟦<BabyBear4 as Over<BabyBear>>⟧.fields in
+        CallAnswers result refusal.new
+        (CallGeneratesNumbers baby_bear_positive E tables.now traces.now challenges.now
+        auxiliary.new terminal.new)
+        (IsGenerateCallRefusal baby_bear_positive E tables.now traces.now challenges.now
+        (length auxiliary.old)) }
     ensures kept { result ≢ 0
         → (auxiliary.new ≡ auxiliary.old) × (terminal.new ≡ terminal.old) }
 {
-    let generated = generate_tables(alloc, tables, traces, challenges);
-    write_generated(generated, auxiliary, terminal, refusal, text)
+    answer_generate::<2_013_265_921, BabyBearParameters>(
+        alloc, tables, traces, challenges, auxiliary, terminal, refusal, text,
+    )
 }

@@ -1,76 +1,42 @@
 //! The call that generates the auxiliary trace of one AIR of a planned batch.
-ghost use Rattle.std.specs.Prelude.{◌≡◌, ◌≢◌, ◌<◌, All, MatchResult, length};
-ghost use Rattle.lookup_c.specs.GenerateByIds.{AnswersByIds, AreIdChallenges, ArePlanChallenges, Generates, IsFirstLargeId, IsIdsRefusal, IsRefusal};
+ghost use Rattle.std.specs.Prelude.{◌≡◌, ◌≢◌, MatchResult, length};
+ghost use Rattle.field.specs.laws.BabyBear.{baby_bear_positive};
+ghost use Rattle.lookup_c.specs.GenerateByIds.{AnswersGenerateByIds};
+ghost use Rattle.lookup_c.specs.internal.PlannedAirs.{GeneratesByIdsInPlan, IsByIdsRefusal};
 
-use crate::codes::Part;
 use crate::fault::Fault;
-use crate::generate::{Generated, generate_lookups, write_generated};
-use crate::inputs::{challenge_of, lookups_of, traces_of};
+use crate::generate::{Generated, generate_fitting, write_generated};
 use crate::outputs::Terminal;
 use crate::plan::PlanSizes;
+use crate::planned_air::{InPlan, read_air};
 use crate::refusal::Refusal;
-use field::{BabyBear, BabyBear4, Over, PrimeCharacteristicRing};
-use lookup::Challenges;
+use field::{
+    BabyBear, BabyBear4, BabyBearParameters, MontyField31, MontyQuartic, Over, QuarticParameters,
+};
 use lookup_tables::{Tables, Traces};
 use std::alloc::Global;
 
-/// Whether all ids are below a number.
-///
-/// Refuses the first one that is not.
-fn check_given_ids(ids: &[usize], num_ids: usize) -> Result<(), Fault>
-    ensures { MatchResult result (λ _. All (λ id. id < num_ids) ids.now)
-        (IsFirstLargeId ids.now num_ids) }
-{
-    for (index, id) in ids.iter().enumerate() {
-        if *id >= num_ids {
-            return Err(Fault::Id { index });
-        }
-    }
-    Ok(())
-}
-
-/// The challenges of the plan of these sizes, which has these ids.
-pub(crate) fn challenges_of_plan(
-    alloc: Global,
-    ids: &[usize],
-    sizes: &PlanSizes,
-    alpha: BabyBear4,
-    beta: BabyBear4,
-) -> Result<Challenges<BabyBear4>, Fault>
-    ensures { MatchResult result
-        (ArePlanChallenges ⟦<BabyBear4 as PrimeCharacteristicRing>⟧.ring ids.now sizes.now alpha beta)
-        (IsIdsRefusal ids.now sizes.now) }
-{
-    let width = sizes.max_message_width;
-    if width == 0 {
-        return Err(Fault::Width);
-    }
-    check_given_ids(ids, sizes.num_ids)?;
-    Ok(Challenges::new(alloc, alpha, beta, width, sizes.num_ids)?)
-}
-
-/// The challenges of lookups with these ids, under the plan of these sizes.
-fn challenges_of_ids(
-    alloc: Global,
-    ids: &[usize],
-    sizes: &PlanSizes,
-    alpha: BabyBear4,
-    beta: BabyBear4,
-) -> Result<Vec<BabyBear4>, Fault>
-    ensures { MatchResult result
-        (AreIdChallenges ⟦<BabyBear4 as PrimeCharacteristicRing>⟧.ring ids.now sizes.now alpha beta)
-        (IsIdsRefusal ids.now sizes.now) }
-{
-    let challenges = challenges_of_plan(alloc, ids, sizes, alpha, beta)?;
-    Ok(challenges.for_columns(alloc, ids)?)
-}
-
 /// Generates over what tables encode, under ids.
 ///
-/// Refuses the first of these with a fault: the tables, the traces, alpha, beta, the number of ids, the
-/// sizes of the plan, an id, whether the lookups fit the traces, the heights of the traces, and the
-/// generation.
-fn generate_tables(
+/// Refuses the AIR, as `read_air` does, or else the generation.
+fn generate_tables<const P: u32, K: QuarticParameters<P>>(
+    alloc: Global,
+    tables: &Tables<'_>,
+    traces: &Traces<'_>,
+    plan: &InPlan<'_>,
+) -> Result<Generated<MontyQuartic<P, K>>, Fault>
+    ensures { let E = ⟦<MontyQuartic<P, K> as Over<MontyField31<P, K>>>⟧.fields in
+        MatchResult result
+        (GeneratesByIdsInPlan K.positive E tables.now traces.now plan.now)
+        (IsByIdsRefusal K.positive E tables.now traces.now plan.now) }
+{
+    let air = read_air::<P, K>(alloc, tables, traces, plan)?;
+    let challenges = air.challenges.for_columns(alloc, plan.ids)?;
+    generate_fitting(alloc, &air.traces, &air.lookups, &challenges)
+}
+
+/// The answer of `volgwain_generate_by_ids`, over any prime field below 2^31.
+pub(crate) fn answer_generate_by_ids<const P: u32, K: QuarticParameters<P>>(
     alloc: Global,
     tables: &Tables<'_>,
     traces: &Traces<'_>,
@@ -78,24 +44,26 @@ fn generate_tables(
     sizes: &PlanSizes,
     alpha: &[u32; 4],
     beta: &[u32; 4],
-) -> Result<Generated, Fault>
-    ensures { let E = ⟦<BabyBear4 as Over<BabyBear>>⟧.fields in MatchResult result
-        (Generates E tables.now traces.now ids.now sizes.now alpha.now beta.now)
-        (IsRefusal E tables.now traces.now ids.now sizes.now alpha.now beta.now) }
+    auxiliary: &mut [[u32; 4]],
+    terminal: &mut Terminal,
+    refusal: &mut Refusal,
+    text: &mut [u8],
+) -> u32
+    ensures answers { AnswersGenerateByIds K.positive
+        ⟦<MontyQuartic<P, K> as Over<MontyField31<P, K>>>⟧.fields tables.now traces.now ids.now
+        sizes.now alpha.now beta.now (length auxiliary.old) auxiliary.new
+        terminal.new result refusal.new }
+    ensures kept { result ≢ 0
+        → (auxiliary.new ≡ auxiliary.old) × (terminal.new ≡ terminal.old) }
 {
-    let lookups = lookups_of(alloc, 0, tables)?;
-    let traces = traces_of(alloc, 0, traces)?;
-    let alpha = challenge_of(Part::Alphas, *alpha)?;
-    let beta = challenge_of(Part::Betas, *beta)?;
-    if ids.len() != lookups.len() {
-        return Err(Fault::Length {
-            part: Part::Ids,
-            expected: lookups.len(),
-            actual: ids.len(),
-        });
-    }
-    let challenges = challenges_of_ids(alloc, ids, sizes, alpha, beta)?;
-    generate_lookups(alloc, &traces, &lookups, &challenges)
+    let plan = InPlan {
+        ids,
+        sizes,
+        alpha,
+        beta,
+    };
+    let generated = generate_tables::<P, K>(alloc, tables, traces, &plan);
+    write_generated(generated, auxiliary, terminal, refusal, text)
 }
 
 /// Generates the auxiliary trace of one AIR of a planned batch, and its terminal.
@@ -119,12 +87,13 @@ pub extern "C" fn volgwain_generate_by_ids(
     refusal: &mut Refusal,
     text: &mut [u8],
 ) -> u32
-    ensures answers { AnswersByIds ⟦<BabyBear4 as Over<BabyBear>>⟧.fields tables.now traces.now
-        ids.now sizes.now alpha.now beta.now (length auxiliary.old) auxiliary.new terminal.new
-        result refusal.new }
+    ensures answers { AnswersGenerateByIds baby_bear_positive ⟦<BabyBear4 as Over<BabyBear>>⟧.fields
+        tables.now traces.now ids.now sizes.now alpha.now beta.now (length auxiliary.old)
+        auxiliary.new terminal.new result refusal.new }
     ensures kept { result ≢ 0
         → (auxiliary.new ≡ auxiliary.old) × (terminal.new ≡ terminal.old) }
 {
-    let generated = generate_tables(alloc, tables, traces, ids, sizes, alpha, beta);
-    write_generated(generated, auxiliary, terminal, refusal, text)
+    answer_generate_by_ids::<2_013_265_921, BabyBearParameters>(
+        alloc, tables, traces, ids, sizes, alpha, beta, auxiliary, terminal, refusal, text,
+    )
 }

@@ -1,17 +1,20 @@
 //! The call that generates a range of rows of the auxiliary trace of one AIR of a planned batch.
 ghost use Rattle.std.specs.Prelude.{◌≡◌, ◌≢◌, MatchResult, length};
-ghost use Rattle.lookup_c.specs.GenerateRows.{AnswersRowsCall};
+ghost use Rattle.field.specs.laws.BabyBear.{baby_bear_positive};
+ghost use Rattle.lookup_c.specs.GenerateRows.{AnswersGenerateRows};
 ghost use Rattle.lookup_c.specs.internal.PlannedAirs.{GeneratesInPlan, IsGenerationRefusal};
 
 use crate::codes::Part;
-use crate::fault::Fault;
+use crate::fault::{Fault, lookup_fault};
+use crate::generate::traces_as_one;
 use crate::outputs::write_elements;
 use crate::plan::PlanSizes;
 use crate::planned_air::{InPlan, read_air};
 use crate::refusal::{Refusal, accept, refuse};
 use crate::rows::{Rows, range_of};
-use field::{BabyBear, BabyBear4, Over};
-use lookup::LookupError;
+use field::{
+    BabyBear, BabyBear4, BabyBearParameters, MontyField31, MontyQuartic, Over, QuarticParameters,
+};
 use lookup_ranges::generate_around;
 use lookup_tables::{Tables, Traces, element_numbers};
 use matrix::RowMajorMatrix;
@@ -21,29 +24,71 @@ use std::alloc::Global;
 ///
 /// Refuses the first of these with a fault: the AIR, as `read_air` does, the range, the height of the traces,
 /// and the generation.
-fn generate_tables(
+fn generate_tables<const P: u32, K: QuarticParameters<P>>(
     alloc: Global,
     tables: &Tables<'_>,
     around: &Traces<'_>,
     rows: &Rows,
     plan: &InPlan<'_>,
-) -> Result<(RowMajorMatrix<BabyBear4>, BabyBear4), Fault>
-    ensures { let E = ⟦<BabyBear4 as Over<BabyBear>>⟧.fields in MatchResult result
-        (GeneratesInPlan E tables.now around.now rows.now plan.now)
-        (IsGenerationRefusal E tables.now around.now rows.now plan.now) }
+) -> Result<(RowMajorMatrix<MontyQuartic<P, K>>, MontyQuartic<P, K>), Fault>
+    ensures { let E = ⟦<MontyQuartic<P, K> as Over<MontyField31<P, K>>>⟧.fields in
+        MatchResult result
+        (GeneratesInPlan K.positive E tables.now around.now rows.now plan.now)
+        (IsGenerationRefusal K.positive E tables.now around.now rows.now plan.now) }
 {
-    let air = read_air(alloc, tables, around, plan)?;
+    let air = read_air::<P, K>(alloc, tables, around, plan)?;
     let range = range_of(rows, &air.traces)?;
     let challenges = air.challenges.for_columns(alloc, plan.ids)?;
-    let traces = air::Traces {
-        main: &air.traces.main,
-        preprocessed: air.traces.preprocessed.as_ref(),
-        public_values: air.traces.public_values.as_slice(),
-    };
+    let traces = traces_as_one(&air.traces);
     match generate_around(alloc, &traces, &air.lookups, &challenges, range) {
         Ok(made) => Ok(made),
-        Err(LookupError::Memory) => Err(Fault::Memory),
-        Err(error) => Err(Fault::Lookup { air: 0, error }),
+        Err(error) => Err(lookup_fault(error)),
+    }
+}
+
+/// The answer of `volgwain_generate_rows`, over any prime field below 2^31.
+pub(crate) fn answer_generate_rows<const P: u32, K: QuarticParameters<P>>(
+    alloc: Global,
+    tables: &Tables<'_>,
+    around: &Traces<'_>,
+    rows: &Rows,
+    ids: &[usize],
+    sizes: &PlanSizes,
+    alpha: &[u32; 4],
+    beta: &[u32; 4],
+    auxiliary: &mut [[u32; 4]],
+    sum: &mut [u32; 4],
+    refusal: &mut Refusal,
+    text: &mut [u8],
+) -> u32
+    ensures answers { AnswersGenerateRows K.positive
+        ⟦<MontyQuartic<P, K> as Over<MontyField31<P, K>>>⟧.fields tables.now around.now rows.now
+        ids.now sizes.now alpha.now beta.now (length auxiliary.old)
+        auxiliary.new sum.new result refusal.new }
+    ensures kept { result ≢ 0 → (auxiliary.new ≡ auxiliary.old) × (sum.new ≡ sum.old) }
+{
+    let plan = InPlan {
+        ids,
+        sizes,
+        alpha,
+        beta,
+    };
+    match generate_tables::<P, K>(alloc, tables, around, rows, &plan) {
+        Ok((made, total)) => {
+            let values = made.values();
+            if values.len() != auxiliary.len() {
+                let fault = Fault::Length {
+                    part: Part::Auxiliary,
+                    expected: values.len(),
+                    actual: auxiliary.len(),
+                };
+                return refuse(&fault, refusal, text);
+            }
+            write_elements(auxiliary, 0, values);
+            *sum = element_numbers(total);
+            accept(refusal)
+        }
+        Err(fault) => refuse(&fault, refusal, text),
     }
 }
 
@@ -72,32 +117,12 @@ pub extern "C" fn volgwain_generate_rows(
     refusal: &mut Refusal,
     text: &mut [u8],
 ) -> u32
-    ensures answers { AnswersRowsCall ⟦<BabyBear4 as Over<BabyBear>>⟧.fields tables.now around.now
-        rows.now ids.now sizes.now alpha.now beta.now (length auxiliary.old) auxiliary.new sum.new
-        result refusal.new }
+    ensures answers { AnswersGenerateRows baby_bear_positive ⟦<BabyBear4 as Over<BabyBear>>⟧.fields
+        tables.now around.now rows.now ids.now sizes.now alpha.now beta.now (length auxiliary.old)
+        auxiliary.new sum.new result refusal.new }
     ensures kept { result ≢ 0 → (auxiliary.new ≡ auxiliary.old) × (sum.new ≡ sum.old) }
 {
-    let plan = InPlan {
-        ids,
-        sizes,
-        alpha,
-        beta,
-    };
-    match generate_tables(alloc, tables, around, rows, &plan) {
-        Ok((made, total)) => {
-            let values = made.values();
-            if values.len() != auxiliary.len() {
-                let fault = Fault::Length {
-                    part: Part::Auxiliary,
-                    expected: values.len(),
-                    actual: auxiliary.len(),
-                };
-                return refuse(&fault, refusal, text);
-            }
-            write_elements(auxiliary, 0, values);
-            *sum = element_numbers(total);
-            accept(refusal)
-        }
-        Err(fault) => refuse(&fault, refusal, text),
-    }
+    answer_generate_rows::<2_013_265_921, BabyBearParameters>(
+        alloc, tables, around, rows, ids, sizes, alpha, beta, auxiliary, sum, refusal, text,
+    )
 }

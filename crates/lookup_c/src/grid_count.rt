@@ -1,7 +1,8 @@
 //! The call that counts at how many pairs of challenges a batch is accepted.
 ghost use Rattle.std.specs.Prelude.{◌≡◌, ◌≢◌, MatchResult};
-ghost use Rattle.lookup_c.specs.GridCount.{CountsNumbers, CountsTables, IsGridOf, IsRefusal};
-ghost use Rattle.lookup_c.specs.Answers.{Answers};
+ghost use Rattle.field.specs.laws.BabyBear.{baby_bear_positive};
+ghost use Rattle.lookup_c.specs.GridCount.{GridCountIsNumbers, GridCountOfTables, AreGridCountNumbers, IsGridCountRefusal};
+ghost use Rattle.lookup_c.specs.CallAnswers.{CallAnswers};
 
 use crate::batch_tables::{Air, all_traces, plan_of, plan_traces};
 use crate::codes::Part;
@@ -10,7 +11,9 @@ use crate::inputs::list_of;
 use crate::outputs::{Wide, halves, optional_halves};
 use crate::refusal::{Refusal, accept, refuse};
 use batch::GridCount;
-use field::{BabyBear, BabyBear4, Over};
+use field::{
+    BabyBear, BabyBear4, BabyBearParameters, MontyField31, MontyQuartic, Over, QuarticParameters,
+};
 use lookup_tables::Traces;
 use std::alloc::Global;
 
@@ -28,7 +31,7 @@ pub struct Grid {
 
 /// A count of a grid as C sees it.
 fn grid_of(count: &GridCount) -> Grid
-    ensures { IsGridOf count.now result }
+    ensures { AreGridCountNumbers count.now result }
 {
     let (bounded, bound) = optional_halves(count.bound);
     Grid {
@@ -42,23 +45,49 @@ fn grid_of(count: &GridCount) -> Grid
 ///
 /// Refuses the first of these with a fault: the plan of the AIRs, the traces, the alphas, the betas, and
 /// the count.
-fn count_grid(
+fn count_grid<const P: u32, K: QuarticParameters<P>>(
     alloc: Global,
     airs: &[Air<'_>],
     traces: &[Traces<'_>],
     alphas: &[[u32; 4]],
     betas: &[[u32; 4]],
 ) -> Result<GridCount, Fault>
-    ensures { let E = ⟦<BabyBear4 as Over<BabyBear>>⟧.fields in
-        MatchResult result (CountsTables E airs.now traces.now alphas.now betas.now)
-        (IsRefusal E airs.now traces.now alphas.now betas.now) }
+    ensures { let E = ⟦<MontyQuartic<P, K> as Over<MontyField31<P, K>>>⟧.fields in
+        MatchResult result (GridCountOfTables K.positive E airs.now traces.now alphas.now betas.now)
+        (IsGridCountRefusal K.positive E airs.now traces.now alphas.now betas.now) }
 {
-    let plan = plan_of(alloc, airs)?;
-    let all = all_traces(alloc, traces)?;
-    let alphas = list_of(alloc, Part::Alphas, 0, alphas)?;
-    let betas = list_of(alloc, Part::Betas, 0, betas)?;
+    let plan = plan_of::<P, K>(alloc, airs)?;
+    let all = all_traces::<P, K>(alloc, traces)?;
+    let alphas = list_of::<P, K>(alloc, Part::Alphas, 0, alphas)?;
+    let betas = list_of::<P, K>(alloc, Part::Betas, 0, betas)?;
     let given = plan_traces(alloc, &all)?;
     Ok(plan.grid_count(alloc, &given, &alphas, &betas)?)
+}
+
+/// The answer of `volgwain_grid_count`, over any prime field below 2^31.
+pub(crate) fn answer_grid_count<const P: u32, K: QuarticParameters<P>>(
+    alloc: Global,
+    airs: &[Air<'_>],
+    traces: &[Traces<'_>],
+    alphas: &[[u32; 4]],
+    betas: &[[u32; 4]],
+    grid: &mut Grid,
+    refusal: &mut Refusal,
+    text: &mut [u8],
+) -> u32
+    ensures answers { let E = ⟦<MontyQuartic<P, K> as Over<MontyField31<P, K>>>⟧.fields in
+        CallAnswers result refusal.new
+        (GridCountIsNumbers K.positive E airs.now traces.now alphas.now betas.now grid.new)
+        (IsGridCountRefusal K.positive E airs.now traces.now alphas.now betas.now) }
+    ensures kept { result ≢ 0 → grid.new ≡ grid.old }
+{
+    match count_grid::<P, K>(alloc, airs, traces, alphas, betas) {
+        Ok(count) => {
+            *grid = grid_of(&count);
+            accept(refusal)
+        }
+        Err(fault) => refuse(&fault, refusal, text),
+    }
 }
 
 /// Counts at how many pairs of some alphas and betas a batch is accepted, whoever makes the witness, with
@@ -76,16 +105,13 @@ pub extern "C" fn volgwain_grid_count(
     refusal: &mut Refusal,
     text: &mut [u8],
 ) -> u32
-    ensures answers { let E = ⟦<BabyBear4 as Over<BabyBear>>⟧.fields in Answers result refusal.new
-        (CountsNumbers E airs.now traces.now alphas.now betas.now grid.new)
-        (IsRefusal E airs.now traces.now alphas.now betas.now) }
+    ensures answers { let E = ⟦<BabyBear4 as Over<BabyBear>>⟧.fields in
+        CallAnswers result refusal.new
+        (GridCountIsNumbers baby_bear_positive E airs.now traces.now alphas.now betas.now grid.new)
+        (IsGridCountRefusal baby_bear_positive E airs.now traces.now alphas.now betas.now) }
     ensures kept { result ≢ 0 → grid.new ≡ grid.old }
 {
-    match count_grid(alloc, airs, traces, alphas, betas) {
-        Ok(count) => {
-            *grid = grid_of(&count);
-            accept(refusal)
-        }
-        Err(fault) => refuse(&fault, refusal, text),
-    }
+    answer_grid_count::<2_013_265_921, BabyBearParameters>(
+        alloc, airs, traces, alphas, betas, grid, refusal, text,
+    )
 }

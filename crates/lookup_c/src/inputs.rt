@@ -1,12 +1,12 @@
 //! What calls read: lookups, traces and challenges, with the refusals of each.
 ghost use Rattle.std.specs.Prelude.{MatchResult};
-ghost use Rattle.lookup_tables.specs.Tables.{EncodeLookups};
-ghost use Rattle.lookup_tables.specs.Traces.{AreTracesOf};
-ghost use Rattle.lookup_c.specs.Inputs.{AreElements, IsChallenge, IsChallengeRefusal, IsListRefusal, IsTableRefusal, IsTracesRefusal};
+ghost use Rattle.lookup_tables.specs.Tables.{TablesEncode};
+ghost use Rattle.lookup_tables.specs.TraceNumbers.{AreTracesOfNumbers};
+ghost use Rattle.lookup_c.specs.Inputs.{AreInputElements, IsInputChallenge, IsInputChallengeRefusal, IsInputListRefusal, IsInputTableRefusal, IsInputTracesRefusal};
 
 use crate::codes::Part;
 use crate::fault::Fault;
-use field::{BabyBear, BabyBear4};
+use field::{MontyField31, MontyQuartic, QuarticParameters};
 use lookup::Lookup;
 use lookup_tables::{
     NumberFault, ReadTraces, TableFault, Tables, TraceFault, Traces, extension, extensions,
@@ -15,13 +15,13 @@ use lookup_tables::{
 use std::alloc::Global;
 
 /// The lookups that the tables of an AIR encode.
-pub(crate) fn lookups_of(
+pub(crate) fn lookups_of<const P: u32, K: QuarticParameters<P>>(
     alloc: Global,
     air: usize,
     tables: &Tables<'_>,
-) -> Result<Vec<Lookup<BabyBear>>, Fault>
-    ensures { MatchResult result (λ v. EncodeLookups tables.now v.items)
-        (IsTableRefusal air tables.now) }
+) -> Result<Vec<Lookup<MontyField31<P, K>>>, Fault>
+    ensures { MatchResult result (λ v. TablesEncode tables.now v.items)
+        (IsInputTableRefusal P air tables.now) }
 {
     match read_lookups(alloc, tables) {
         Ok(lookups) => Ok(lookups),
@@ -31,8 +31,13 @@ pub(crate) fn lookups_of(
 }
 
 /// The traces that the tables of an AIR encode.
-pub(crate) fn traces_of(alloc: Global, air: usize, traces: &Traces<'_>) -> Result<ReadTraces, Fault>
-    ensures { MatchResult result (AreTracesOf traces.now) (IsTracesRefusal air traces.now) }
+pub(crate) fn traces_of<const P: u32, K: QuarticParameters<P>>(
+    alloc: Global,
+    air: usize,
+    traces: &Traces<'_>,
+) -> Result<ReadTraces<MontyField31<P, K>>, Fault>
+    ensures { MatchResult result (AreTracesOfNumbers K.positive traces.now)
+        (IsInputTracesRefusal P air traces.now) }
 {
     match read_traces(alloc, traces) {
         Ok(traces) => Ok(traces),
@@ -42,14 +47,14 @@ pub(crate) fn traces_of(alloc: Global, air: usize, traces: &Traces<'_>) -> Resul
 }
 
 /// The elements of the extension that a list of groups of four numbers says.
-pub(crate) fn list_of(
+pub(crate) fn list_of<const P: u32, K: QuarticParameters<P>>(
     alloc: Global,
     part: Part,
     air: usize,
     groups: &[[u32; 4]],
-) -> Result<Vec<BabyBear4>, Fault>
-    ensures { MatchResult result (λ v. AreElements groups.now v.items)
-        (IsListRefusal part air groups.now) }
+) -> Result<Vec<MontyQuartic<P, K>>, Fault>
+    ensures { MatchResult result (λ v. AreInputElements K.positive groups.now v.items)
+        (IsInputListRefusal P part air groups.now) }
 {
     match extensions(alloc, groups) {
         Ok(values) => Ok(values),
@@ -59,11 +64,14 @@ pub(crate) fn list_of(
 }
 
 /// The challenge that four numbers encode.
-pub(crate) fn challenge_of(part: Part, numbers: [u32; 4]) -> Result<BabyBear4, Fault>
-    ensures { MatchResult result (IsChallenge numbers)
-        (IsChallengeRefusal part numbers) }
+pub(crate) fn challenge_of<const P: u32, K: QuarticParameters<P>>(
+    part: Part,
+    numbers: [u32; 4],
+) -> Result<MontyQuartic<P, K>, Fault>
+    ensures { MatchResult result (IsInputChallenge K.positive numbers)
+        (IsInputChallengeRefusal P part numbers) }
 {
-    match extension(numbers) {
+    match extension::<P, K>(numbers) {
         Some(x) => Ok(x),
         None => Err(Fault::Large {
             part,

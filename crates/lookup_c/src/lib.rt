@@ -1,12 +1,15 @@
-//! The calls of the lookup layer as C functions, over `BabyBear` and its quartic extension.
+//! The calls of the lookup layer as C functions, over `BabyBear` and over `KoalaBear`, each with its quartic
+//! extension.
 //!
 //! Each call gets all that it reads as tables of numbers, the lookups and traces of `lookup_tables`, and
 //! writes into arrays of its caller. It answers a code: 0, or that of a refusal, with its fields and its
-//! text. Each call is in the file of its name. A refused call leaves the other arrays as they were. No
-//! memory and no handle crosses the boundary. `bindings/c/volgwain.h` declares the calls for C, and
-//! docs/C.md says how they are used.
+//! text. Each call is in the file of its name, over any such field and as the C function over `BabyBear`; those
+//! over `KoalaBear` are in `koala_bear`. A refused call leaves the other arrays as they were. No memory and no
+//! handle crosses the boundary. `bindings/c/volgwain.h` declares the calls for C, and docs/C.md says how they
+//! are used.
 #![tactic(auto)]
 
+mod abi;
 mod batch_tables;
 mod codes;
 mod debug_check;
@@ -17,6 +20,7 @@ mod generate_by_ids;
 mod generate_rows;
 mod grid_count;
 mod inputs;
+mod koala_bear;
 mod outputs;
 mod pack;
 mod plan;
@@ -42,6 +46,14 @@ pub use generate::volgwain_generate;
 pub use generate_by_ids::volgwain_generate_by_ids;
 pub use generate_rows::volgwain_generate_rows;
 pub use grid_count::{Grid, volgwain_grid_count};
+pub use koala_bear::{
+    volgwain_koala_bear_debug_check, volgwain_koala_bear_degrees, volgwain_koala_bear_generate,
+    volgwain_koala_bear_generate_by_ids, volgwain_koala_bear_generate_rows,
+    volgwain_koala_bear_grid_count, volgwain_koala_bear_pack, volgwain_koala_bear_plan,
+    volgwain_koala_bear_prove, volgwain_koala_bear_read_json, volgwain_koala_bear_shift,
+    volgwain_koala_bear_soundness_count, volgwain_koala_bear_soundness_of_heights,
+    volgwain_koala_bear_verify, volgwain_koala_bear_verify_rows,
+};
 pub use outputs::{Terminal, Wide};
 pub use pack::volgwain_pack;
 pub use plan::{PlanSizes, volgwain_plan};

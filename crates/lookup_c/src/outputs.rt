@@ -2,9 +2,9 @@
 ghost use Rattle.std.specs.Prelude.{◌≡◌, ◌+◌, ◌≤◌, ◌++◌, IfSome, length, map, take};
 ghost use Rattle.std.specs.List.{flat_map};
 ghost use Rattle.lookup_tables.specs.Numbers.{numbers_of};
-ghost use Rattle.lookup_c.specs.Outputs.{IsOptionalNumber, cells_of, number_of, terminal_numbers};
+ghost use Rattle.lookup_c.specs.Outputs.{IsOptionalWide, output_cells, wide_number, terminal_numbers};
 
-use field::BabyBear4;
+use field::{MontyQuartic, QuarticParameters};
 use lookup::LookupTerminal;
 use lookup_tables::element_numbers;
 use matrix::RowMajorMatrix;
@@ -29,7 +29,7 @@ pub struct Wide {
 
 /// The halves of a number.
 pub(crate) fn halves(n: u128) -> Wide
-    ensures { number_of result ≡ n }
+    ensures { wide_number result ≡ n }
 {
     Wide {
         low: (n % 18_446_744_073_709_551_616) as u64,
@@ -39,7 +39,7 @@ pub(crate) fn halves(n: u128) -> Wide
 
 /// Whether there is a number, 1 or 0, and its halves, which are 0 if there is none.
 pub(crate) fn optional_halves(n: Option<u128>) -> (u32, Wide)
-    ensures { IsOptionalNumber n result.0 result.1 }
+    ensures { IsOptionalWide n result.0 result.1 }
 {
     match n {
         Some(n) => (1, halves(n)),
@@ -48,7 +48,9 @@ pub(crate) fn optional_halves(n: Option<u128>) -> (u32, Wide)
 }
 
 /// The numbers of a terminal.
-pub(crate) fn terminal_numbers(terminal: Option<LookupTerminal<BabyBear4>>) -> Terminal
+pub(crate) fn terminal_numbers<const P: u32, K: QuarticParameters<P>>(
+    terminal: Option<LookupTerminal<MontyQuartic<P, K>>>,
+) -> Terminal
     ensures { result ≡ terminal_numbers terminal }
 {
     match terminal {
@@ -64,7 +66,11 @@ pub(crate) fn terminal_numbers(terminal: Option<LookupTerminal<BabyBear4>>) -> T
 }
 
 /// Writes elements as cells from `at` on.
-pub(crate) fn write_elements(cells: &mut [[u32; 4]], at: usize, values: &[BabyBear4])
+pub(crate) fn write_elements<const P: u32, K: QuarticParameters<P>>(
+    cells: &mut [[u32; 4]],
+    at: usize,
+    values: &[MontyQuartic<P, K>],
+)
     requires { at + length values.now ≤ length cells.old }
     ensures { take (at + length values.now) cells.new
         ≡ take at cells.old ++ map numbers_of values.now }
@@ -75,8 +81,10 @@ pub(crate) fn write_elements(cells: &mut [[u32; 4]], at: usize, values: &[BabyBe
 }
 
 /// How many cells some auxiliary traces have, if so many can be counted.
-pub(crate) fn cell_count(traces: &[RowMajorMatrix<BabyBear4>]) -> Option<usize>
-    ensures { IfSome result (λ n. n ≡ length (flat_map cells_of traces.now)) }
+pub(crate) fn cell_count<const P: u32, K: QuarticParameters<P>>(
+    traces: &[RowMajorMatrix<MontyQuartic<P, K>>],
+) -> Option<usize>
+    ensures { IfSome result (λ n. n ≡ length (flat_map output_cells traces.now)) }
 {
     let mut count: usize = 0;
     for trace in traces {
@@ -86,9 +94,12 @@ pub(crate) fn cell_count(traces: &[RowMajorMatrix<BabyBear4>]) -> Option<usize>
 }
 
 /// Writes the cells of some auxiliary traces, one trace after the other.
-pub(crate) fn write_traces(cells: &mut [[u32; 4]], traces: &[RowMajorMatrix<BabyBear4>])
-    requires { length (flat_map cells_of traces.now) ≡ length cells.old }
-    ensures { cells.new ≡ flat_map cells_of traces.now }
+pub(crate) fn write_traces<const P: u32, K: QuarticParameters<P>>(
+    cells: &mut [[u32; 4]],
+    traces: &[RowMajorMatrix<MontyQuartic<P, K>>],
+)
+    requires { length (flat_map output_cells traces.now) ≡ length cells.old }
+    ensures { cells.new ≡ flat_map output_cells traces.now }
 {
     let mut at = 0;
     for trace in traces {
@@ -98,9 +109,9 @@ pub(crate) fn write_traces(cells: &mut [[u32; 4]], traces: &[RowMajorMatrix<Baby
 }
 
 /// Writes terminals.
-pub(crate) fn write_terminals(
+pub(crate) fn write_terminals<const P: u32, K: QuarticParameters<P>>(
     terminals: &mut [Terminal],
-    values: &[Option<LookupTerminal<BabyBear4>>],
+    values: &[Option<LookupTerminal<MontyQuartic<P, K>>>],
 )
     requires { length values.now ≡ length terminals.old }
     ensures { terminals.new ≡ map terminal_numbers values.now }

@@ -1,49 +1,86 @@
 //! The call that packs the lookups of an AIR.
 ghost use Rattle.std.specs.Prelude.{◌≡◌, ◌≢◌, MatchResult};
 ghost use Rattle.lookup.specs.Lookups.{lookups_of};
-ghost use Rattle.lookup_c.specs.Pack.{AnswersPack, IsCallRefusal, IsPackError, IsPackedFrom, PacksTables};
-ghost use Rattle.lookup_c.specs.WrittenTables.{HasTableRoom, arrays, sizes_of};
+ghost use Rattle.lookup_c.specs.Pack.{AnswersPack, IsPackRefusal, IsPackSetRefusal, CallPacksFrom, PacksTables};
+ghost use Rattle.lookup_c.specs.WrittenTables.{HasTableRoom, table_arrays, sizes_of_written};
 
 use crate::batch_tables::set_of;
-use crate::fault::Fault;
+use crate::fault::{Fault, lookup_fault};
 use crate::refusal::{Refusal, accept, refuse};
 use crate::written_tables::{TableSizes, tables_for, write_tables};
-use field::{BabyBear, BabyBear4, Over};
-use lookup::{LogUpGadget, LookupError, Lookups};
+use field::{
+    BabyBear, BabyBear4, BabyBearParameters, MontyField31, MontyQuartic, Over, QuarticParameters,
+};
+use lookup::{LogUpGadget, Lookups};
 use lookup_tables::{Node, Record, Span, Tables, Written};
 use std::alloc::Global;
 
 /// The packed lookups of a set.
-fn pack_set(
+fn pack_set<const P: u32, K: QuarticParameters<P>>(
     alloc: Global,
-    set: Lookups<BabyBear>,
+    set: Lookups<MontyField31<P, K>>,
     max_degree: usize,
-) -> Result<Lookups<BabyBear>, Fault>
-    ensures { let E = ⟦<BabyBear4 as Over<BabyBear>>⟧.fields in
-        MatchResult result (λ after. IsPackedFrom E max_degree (lookups_of set) (lookups_of after))
-        (IsPackError max_degree (lookups_of set)) }
+) -> Result<Lookups<MontyField31<P, K>>, Fault>
+    ensures { let E = ⟦<MontyQuartic<P, K> as Over<MontyField31<P, K>>>⟧.fields in
+        MatchResult result (λ after. CallPacksFrom E max_degree (lookups_of set) (lookups_of after))
+        (IsPackSetRefusal max_degree (lookups_of set)) }
 {
     match set.pack_same_bus(alloc, &LogUpGadget::new(), max_degree) {
         Ok(after) => Ok(after),
-        Err(LookupError::Memory) => Err(Fault::Memory),
-        Err(error) => Err(Fault::Lookup { air: 0, error }),
+        Err(error) => Err(lookup_fault(error)),
     }
 }
 
 /// Tables of the packed lookups that tables encode.
-fn pack_tables(
+fn pack_tables<const P: u32, K: QuarticParameters<P>>(
     alloc: Global,
     tables: &Tables<'_>,
     max_degree: usize,
     room: TableSizes,
 ) -> Result<Written, Fault>
-    ensures { let E = ⟦<BabyBear4 as Over<BabyBear>>⟧.fields in MatchResult result
-        (λ w. PacksTables E tables.now max_degree w × HasTableRoom (sizes_of w) room)
-        (IsCallRefusal E tables.now max_degree room) }
+    ensures { let E = ⟦<MontyQuartic<P, K> as Over<MontyField31<P, K>>>⟧.fields in
+        MatchResult result
+        (λ w. PacksTables E tables.now max_degree w × HasTableRoom (sizes_of_written w) room)
+        (IsPackRefusal E tables.now max_degree room) }
 {
-    let set = set_of(alloc, 0, tables)?;
+    let set = set_of::<P, K>(alloc, 0, tables)?;
     let after = pack_set(alloc, set, max_degree)?;
     tables_for(alloc, &after, room)
+}
+
+/// The answer of `volgwain_pack`, over any prime field below 2^31.
+pub(crate) fn answer_pack<const P: u32, K: QuarticParameters<P>>(
+    alloc: Global,
+    tables: &Tables<'_>,
+    max_degree: usize,
+    nodes: &mut [Node],
+    tuples: &mut [Span],
+    names: &mut [u8],
+    records: &mut [Record],
+    sizes: &mut TableSizes,
+    refusal: &mut Refusal,
+    text: &mut [u8],
+) -> u32
+    ensures answers { AnswersPack ⟦<MontyQuartic<P, K> as Over<MontyField31<P, K>>>⟧.fields
+        tables.now max_degree
+        (table_arrays nodes.old tuples.old names.old records.old)
+        (table_arrays nodes.new tuples.new names.new records.new) sizes.new result refusal.new }
+    ensures kept { result ≢ 0 → (nodes.new ≡ nodes.old) × (tuples.new ≡ tuples.old)
+        × (names.new ≡ names.old) × (records.new ≡ records.old) × (sizes.new ≡ sizes.old) }
+{
+    let room = TableSizes {
+        nodes: nodes.len(),
+        tuples: tuples.len(),
+        names: names.len(),
+        records: records.len(),
+    };
+    match pack_tables::<P, K>(alloc, tables, max_degree, room) {
+        Ok(made) => {
+            *sizes = write_tables(&made, nodes, tuples, names, records);
+            accept(refusal)
+        }
+        Err(fault) => refuse(&fault, refusal, text),
+    }
 }
 
 /// Packs the lookups of an AIR: those on one bus share columns, as many as the degree allows.
@@ -65,22 +102,12 @@ pub extern "C" fn volgwain_pack(
     text: &mut [u8],
 ) -> u32
     ensures answers { AnswersPack ⟦<BabyBear4 as Over<BabyBear>>⟧.fields tables.now max_degree
-        (arrays nodes.old tuples.old names.old records.old)
-        (arrays nodes.new tuples.new names.new records.new) sizes.new result refusal.new }
+        (table_arrays nodes.old tuples.old names.old records.old)
+        (table_arrays nodes.new tuples.new names.new records.new) sizes.new result refusal.new }
     ensures kept { result ≢ 0 → (nodes.new ≡ nodes.old) × (tuples.new ≡ tuples.old)
         × (names.new ≡ names.old) × (records.new ≡ records.old) × (sizes.new ≡ sizes.old) }
 {
-    let room = TableSizes {
-        nodes: nodes.len(),
-        tuples: tuples.len(),
-        names: names.len(),
-        records: records.len(),
-    };
-    match pack_tables(alloc, tables, max_degree, room) {
-        Ok(made) => {
-            *sizes = write_tables(&made, nodes, tuples, names, records);
-            accept(refusal)
-        }
-        Err(fault) => refuse(&fault, refusal, text),
-    }
+    answer_pack::<2_013_265_921, BabyBearParameters>(
+        alloc, tables, max_degree, nodes, tuples, names, records, sizes, refusal, text,
+    )
 }

@@ -2,16 +2,16 @@
 ghost use Rattle.std.specs.Prelude.{◌≡◌, ◌≢◌, ◌+◌, ◌≤◌, ◌++◌, IfSome, MatchResult, length, take};
 ghost use Rattle.std.specs.List.{flat_map};
 ghost use Rattle.batch.specs.Runs.{plan_of};
-ghost use Rattle.lookup_c.specs.BatchTables.{IsPlanOf};
-ghost use Rattle.lookup_c.specs.Plan.{IsCallRefusal, PlansNumbers, items_of};
-ghost use Rattle.lookup_c.specs.Answers.{Answers};
+ghost use Rattle.lookup_c.specs.BatchTables.{IsPlanOfTables};
+ghost use Rattle.lookup_c.specs.Plan.{IsPlanCallRefusal, PlansNumbers, id_items};
+ghost use Rattle.lookup_c.specs.CallAnswers.{CallAnswers};
 
 use crate::batch_tables::{Air, plan_of};
 use crate::codes::Part;
 use crate::fault::Fault;
 use crate::refusal::{Refusal, accept, refuse};
 use batch::BatchPlan;
-use field::BabyBear;
+use field::{BabyBearParameters, MontyField31, QuarticParameters};
 use std::alloc::Global;
 
 /// The sizes of a plan.
@@ -26,7 +26,7 @@ pub struct PlanSizes {
 
 /// How many ids there are, if they can be counted.
 fn id_count(ids: &[Vec<usize>]) -> Option<usize>
-    ensures { IfSome result (λ n. n ≡ length (flat_map items_of ids.now)) }
+    ensures { IfSome result (λ n. n ≡ length (flat_map id_items ids.now)) }
 {
     let mut count: usize = 0;
     for list in ids {
@@ -47,8 +47,8 @@ fn write_numbers(numbers: &mut [usize], at: usize, values: &[usize])
 
 /// Writes the ids of all AIRs, one after the other.
 fn write_ids(numbers: &mut [usize], ids: &[Vec<usize>])
-    requires { length (flat_map items_of ids.now) ≡ length numbers.old }
-    ensures { numbers.new ≡ flat_map items_of ids.now }
+    requires { length (flat_map id_items ids.now) ≡ length numbers.old }
+    ensures { numbers.new ≡ flat_map id_items ids.now }
 {
     let mut at = 0;
     for list in ids {
@@ -58,16 +58,17 @@ fn write_ids(numbers: &mut [usize], ids: &[Vec<usize>])
 }
 
 /// The plan of the AIRs, for room for so many ids.
-fn plan_into_room(
+fn plan_into_room<const P: u32, K: QuarticParameters<P>>(
     alloc: Global,
     airs: &[Air<'_>],
     room: usize,
-) -> Result<BatchPlan<BabyBear>, Fault>
+) -> Result<BatchPlan<MontyField31<P, K>>, Fault>
     ensures { MatchResult result
-        (λ plan. IsPlanOf airs.now (plan_of plan) × (length (flat_map items_of plan.ids.items) ≡ room))
-        (IsCallRefusal airs.now room) }
+        (λ plan. IsPlanOfTables airs.now (plan_of plan)
+        × (length (flat_map id_items plan.ids.items) ≡ room))
+        (IsPlanCallRefusal P airs.now room) }
 {
-    let plan = plan_of(alloc, airs)?;
+    let plan = plan_of::<P, K>(alloc, airs)?;
     let Some(expected) = id_count(plan.ids()) else {
         return Err(Fault::Memory);
     };
@@ -79,6 +80,32 @@ fn plan_into_room(
         });
     }
     Ok(plan)
+}
+
+/// The answer of `volgwain_plan`, over any prime field below 2^31.
+pub(crate) fn answer_plan<const P: u32, K: QuarticParameters<P>>(
+    alloc: Global,
+    airs: &[Air<'_>],
+    ids: &mut [usize],
+    plan: &mut PlanSizes,
+    refusal: &mut Refusal,
+    text: &mut [u8],
+) -> u32
+    ensures answers { CallAnswers result refusal.new (PlansNumbers P airs.now ids.new plan.new)
+        (IsPlanCallRefusal P airs.now (length ids.old)) }
+    ensures kept { result ≢ 0 → (ids.new ≡ ids.old) × (plan.new ≡ plan.old) }
+{
+    match plan_into_room::<P, K>(alloc, airs, ids.len()) {
+        Ok(made) => {
+            write_ids(ids, made.ids());
+            *plan = PlanSizes {
+                max_message_width: made.max_message_width(),
+                num_ids: made.num_ids(),
+            };
+            accept(refusal)
+        }
+        Err(fault) => refuse(&fault, refusal, text),
+    }
 }
 
 /// Gives the plan of a batch: an id for each lookup, AIR by AIR, and its sizes.
@@ -95,19 +122,10 @@ pub extern "C" fn volgwain_plan(
     refusal: &mut Refusal,
     text: &mut [u8],
 ) -> u32
-    ensures answers { Answers result refusal.new (PlansNumbers airs.now ids.new plan.new)
-        (IsCallRefusal airs.now (length ids.old)) }
+    ensures answers { CallAnswers result refusal.new
+        (PlansNumbers 2013265921 airs.now ids.new plan.new)
+        (IsPlanCallRefusal 2013265921 airs.now (length ids.old)) }
     ensures kept { result ≢ 0 → (ids.new ≡ ids.old) × (plan.new ≡ plan.old) }
 {
-    match plan_into_room(alloc, airs, ids.len()) {
-        Ok(made) => {
-            write_ids(ids, made.ids());
-            *plan = PlanSizes {
-                max_message_width: made.max_message_width(),
-                num_ids: made.num_ids(),
-            };
-            accept(refusal)
-        }
-        Err(fault) => refuse(&fault, refusal, text),
-    }
+    answer_plan::<2_013_265_921, BabyBearParameters>(alloc, airs, ids, plan, refusal, text)
 }

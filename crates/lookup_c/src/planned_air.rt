@@ -1,14 +1,14 @@
-//! One AIR of a planned batch, as calls on ranges of its rows read it.
-ghost use Rattle.std.specs.Prelude.{MatchResult};
+//! One AIR of a planned batch, as calls read it.
+ghost use Rattle.std.specs.Prelude.{◌<◌, All, MatchResult};
+ghost use Rattle.lookup_c.specs.PlannedAirs.{ArePlannedChallenges, IsFirstLargePlannedId, IsPlannedIdsRefusal};
 ghost use Rattle.lookup_c.specs.internal.PlannedAirs.{IsRead, IsReadRefusal};
 
 use crate::codes::Part;
 use crate::fault::Fault;
 use crate::generate::check_fit;
-use crate::generate_by_ids::challenges_of_plan;
 use crate::inputs::{challenge_of, lookups_of, traces_of};
 use crate::plan::PlanSizes;
-use field::{BabyBear, BabyBear4, PrimeCharacteristicRing};
+use field::{MontyField31, MontyQuartic, PrimeCharacteristicRing, QuarticParameters};
 use lookup::{Challenges, Lookup};
 use lookup_tables::{ReadTraces, Tables, Traces};
 use std::alloc::Global;
@@ -24,31 +24,68 @@ pub(crate) struct InPlan<'a> {
 
 /// An AIR of a planned batch.
 #[derive(Drop)]
-pub(crate) struct PlannedAir {
-    pub(crate) lookups: Vec<Lookup<BabyBear>>,
-    pub(crate) traces: ReadTraces,
+pub(crate) struct PlannedAir<F, EF> {
+    pub(crate) lookups: Vec<Lookup<F>>,
+    pub(crate) traces: ReadTraces<F>,
     /// The challenges of all ids of the plan.
-    pub(crate) challenges: Challenges<BabyBear4>,
+    pub(crate) challenges: Challenges<EF>,
+}
+
+/// Whether all ids are below a number.
+///
+/// Refuses the first one that is not.
+fn check_given_ids(ids: &[usize], num_ids: usize) -> Result<(), Fault>
+    ensures { MatchResult result (λ _. All (λ id. id < num_ids) ids.now)
+        (IsFirstLargePlannedId ids.now num_ids) }
+{
+    for (index, id) in ids.iter().enumerate() {
+        if *id >= num_ids {
+            return Err(Fault::Id { index });
+        }
+    }
+    Ok(())
+}
+
+/// The challenges of the plan of these sizes, which has these ids.
+fn challenges_of_plan<const P: u32, K: QuarticParameters<P>>(
+    alloc: Global,
+    ids: &[usize],
+    sizes: &PlanSizes,
+    alpha: MontyQuartic<P, K>,
+    beta: MontyQuartic<P, K>,
+) -> Result<Challenges<MontyQuartic<P, K>>, Fault>
+    ensures { MatchResult result
+        (ArePlannedChallenges ⟦<MontyQuartic<P, K> as PrimeCharacteristicRing>⟧.ring ids.now
+        sizes.now alpha beta)
+        (IsPlannedIdsRefusal ids.now sizes.now) }
+{
+    let width = sizes.max_message_width;
+    if width == 0 {
+        return Err(Fault::Width);
+    }
+    check_given_ids(ids, sizes.num_ids)?;
+    Ok(Challenges::new(alloc, alpha, beta, width, sizes.num_ids)?)
 }
 
 /// Reads an AIR of a planned batch.
 ///
 /// Refuses the first of these with a fault: the tables, the traces, alpha, beta, the number of ids, the
 /// sizes of the plan, an id, whether the lookups fit the traces, and the heights of the traces.
-pub(crate) fn read_air(
+pub(crate) fn read_air<const P: u32, K: QuarticParameters<P>>(
     alloc: Global,
     tables: &Tables<'_>,
     traces: &Traces<'_>,
     plan: &InPlan<'_>,
-) -> Result<PlannedAir, Fault>
+) -> Result<PlannedAir<MontyField31<P, K>, MontyQuartic<P, K>>, Fault>
     ensures { MatchResult result
-        (IsRead ⟦<BabyBear4 as PrimeCharacteristicRing>⟧.ring tables.now traces.now plan.now)
-        (IsReadRefusal tables.now traces.now plan.now) }
+        (IsRead K.positive ⟦<MontyQuartic<P, K> as PrimeCharacteristicRing>⟧.ring tables.now
+        traces.now plan.now)
+        (IsReadRefusal K.positive tables.now traces.now plan.now) }
 {
-    let lookups = lookups_of(alloc, 0, tables)?;
-    let traces = traces_of(alloc, 0, traces)?;
-    let alpha = challenge_of(Part::Alphas, *plan.alpha)?;
-    let beta = challenge_of(Part::Betas, *plan.beta)?;
+    let lookups = lookups_of::<P, K>(alloc, 0, tables)?;
+    let traces = traces_of::<P, K>(alloc, 0, traces)?;
+    let alpha = challenge_of::<P, K>(Part::Alphas, *plan.alpha)?;
+    let beta = challenge_of::<P, K>(Part::Betas, *plan.beta)?;
     if plan.ids.len() != lookups.len() {
         return Err(Fault::Length {
             part: Part::Ids,
@@ -56,7 +93,7 @@ pub(crate) fn read_air(
             actual: plan.ids.len(),
         });
     }
-    let challenges = challenges_of_plan(alloc, plan.ids, plan.sizes, alpha, beta)?;
+    let challenges = challenges_of_plan::<P, K>(alloc, plan.ids, plan.sizes, alpha, beta)?;
     check_fit(&traces, &lookups)?;
     Ok(PlannedAir {
         lookups,

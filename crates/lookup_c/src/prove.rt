@@ -1,6 +1,7 @@
 //! The call of a prover on the plan of a batch.
 ghost use Rattle.std.specs.Prelude.{◌≡◌, ◌≢◌, MatchResult, length};
-ghost use Rattle.lookup_c.specs.Prove.{AnswersProve, HasRoom, IsCallRefusal, IsRefusal, IsRoomRefusal, ProvesTables};
+ghost use Rattle.field.specs.laws.BabyBear.{baby_bear_positive};
+ghost use Rattle.lookup_c.specs.Prove.{AnswersProve, HasProveRoom, IsProveCallRefusal, IsProveRefusal, IsProveRoomRefusal, ProvesTables};
 
 use crate::batch_tables::{Air, all_traces, plan_of, plan_traces};
 use crate::codes::Part;
@@ -9,36 +10,42 @@ use crate::inputs::challenge_of;
 use crate::outputs::{Terminal, cell_count, write_terminals, write_traces};
 use crate::refusal::{Refusal, accept, refuse};
 use checker::Witness;
-use field::{BabyBear, BabyBear4, Over};
+use field::{
+    BabyBear, BabyBear4, BabyBearParameters, MontyField31, MontyQuartic, Over, QuarticParameters,
+};
 use lookup_tables::Traces;
 use std::alloc::Global;
 
 /// The witness of the batch that tables encode.
 ///
 /// Refuses the first of these with a fault: the plan of the AIRs, the traces, alpha, beta, and the proof.
-fn prove_tables(
+fn prove_tables<const P: u32, K: QuarticParameters<P>>(
     alloc: Global,
     airs: &[Air<'_>],
     traces: &[Traces<'_>],
     alpha: &[u32; 4],
     beta: &[u32; 4],
-) -> Result<Witness<BabyBear4>, Fault>
-    ensures { let E = ⟦<BabyBear4 as Over<BabyBear>>⟧.fields in
-        MatchResult result (ProvesTables E airs.now traces.now alpha.now beta.now)
-        (IsRefusal E airs.now traces.now alpha.now beta.now) }
+) -> Result<Witness<MontyQuartic<P, K>>, Fault>
+    ensures { let E = ⟦<MontyQuartic<P, K> as Over<MontyField31<P, K>>>⟧.fields in
+        MatchResult result (ProvesTables K.positive E airs.now traces.now alpha.now beta.now)
+        (IsProveRefusal K.positive E airs.now traces.now alpha.now beta.now) }
 {
-    let plan = plan_of(alloc, airs)?;
-    let all = all_traces(alloc, traces)?;
-    let alpha = challenge_of(Part::Alphas, *alpha)?;
-    let beta = challenge_of(Part::Betas, *beta)?;
+    let plan = plan_of::<P, K>(alloc, airs)?;
+    let all = all_traces::<P, K>(alloc, traces)?;
+    let alpha = challenge_of::<P, K>(Part::Alphas, *alpha)?;
+    let beta = challenge_of::<P, K>(Part::Betas, *beta)?;
     let given = plan_traces(alloc, &all)?;
     Ok(plan.prove(alloc, &given, alpha, beta)?)
 }
 
 /// Whether there is room for exactly the cells and the terminals of a witness.
-fn check_room(witness: &Witness<BabyBear4>, cells: usize, terminals: usize) -> Result<(), Fault>
-    ensures { MatchResult result (λ _. HasRoom witness.now cells terminals)
-        (IsRoomRefusal witness.now cells terminals) }
+fn check_room<const P: u32, K: QuarticParameters<P>>(
+    witness: &Witness<MontyQuartic<P, K>>,
+    cells: usize,
+    terminals: usize,
+) -> Result<(), Fault>
+    ensures { MatchResult result (λ _. HasProveRoom witness.now cells terminals)
+        (IsProveRoomRefusal witness.now cells terminals) }
 {
     let Some(expected) = cell_count(&witness.aux) else {
         return Err(Fault::Memory);
@@ -61,7 +68,7 @@ fn check_room(witness: &Witness<BabyBear4>, cells: usize, terminals: usize) -> R
 }
 
 /// The witness of the batch that tables encode, for room for so many cells and terminals.
-fn prove_into_room(
+fn prove_into_room<const P: u32, K: QuarticParameters<P>>(
     alloc: Global,
     airs: &[Air<'_>],
     traces: &[Traces<'_>],
@@ -69,14 +76,46 @@ fn prove_into_room(
     beta: &[u32; 4],
     cells: usize,
     terminals: usize,
-) -> Result<Witness<BabyBear4>, Fault>
-    ensures { let E = ⟦<BabyBear4 as Over<BabyBear>>⟧.fields in MatchResult result
-        (λ w. ProvesTables E airs.now traces.now alpha.now beta.now w × HasRoom w cells terminals)
-        (IsCallRefusal E airs.now traces.now alpha.now beta.now cells terminals) }
+) -> Result<Witness<MontyQuartic<P, K>>, Fault>
+    ensures { let E = ⟦<MontyQuartic<P, K> as Over<MontyField31<P, K>>>⟧.fields in
+        MatchResult result
+        (λ w. ProvesTables K.positive E airs.now traces.now alpha.now beta.now w
+        × HasProveRoom w cells terminals)
+        (IsProveCallRefusal K.positive E airs.now traces.now alpha.now beta.now cells terminals) }
 {
-    let witness = prove_tables(alloc, airs, traces, alpha, beta)?;
+    let witness = prove_tables::<P, K>(alloc, airs, traces, alpha, beta)?;
     check_room(&witness, cells, terminals)?;
     Ok(witness)
+}
+
+/// The answer of `volgwain_prove`, over any prime field below 2^31.
+pub(crate) fn answer_prove<const P: u32, K: QuarticParameters<P>>(
+    alloc: Global,
+    airs: &[Air<'_>],
+    traces: &[Traces<'_>],
+    alpha: &[u32; 4],
+    beta: &[u32; 4],
+    auxiliary: &mut [[u32; 4]],
+    terminals: &mut [Terminal],
+    refusal: &mut Refusal,
+    text: &mut [u8],
+) -> u32
+    ensures answers { AnswersProve K.positive
+        ⟦<MontyQuartic<P, K> as Over<MontyField31<P, K>>>⟧.fields airs.now traces.now alpha.now
+        beta.now (length auxiliary.old) (length terminals.old) auxiliary.new terminals.new result
+        refusal.new }
+    ensures kept { result ≢ 0
+        → (auxiliary.new ≡ auxiliary.old) × (terminals.new ≡ terminals.old) }
+{
+    let (cells, endings) = (auxiliary.len(), terminals.len());
+    match prove_into_room::<P, K>(alloc, airs, traces, alpha, beta, cells, endings) {
+        Ok(witness) => {
+            write_traces(auxiliary, &witness.aux);
+            write_terminals(terminals, &witness.terminals);
+            accept(refusal)
+        }
+        Err(fault) => refuse(&fault, refusal, text),
+    }
 }
 
 /// Makes the witness of a batch: the auxiliary traces and the terminals of its AIRs.
@@ -99,19 +138,13 @@ pub extern "C" fn volgwain_prove(
     refusal: &mut Refusal,
     text: &mut [u8],
 ) -> u32
-    ensures answers { AnswersProve ⟦<BabyBear4 as Over<BabyBear>>⟧.fields airs.now traces.now
-        alpha.now beta.now (length auxiliary.old) (length terminals.old) auxiliary.new
-        terminals.new result refusal.new }
+    ensures answers { AnswersProve baby_bear_positive ⟦<BabyBear4 as Over<BabyBear>>⟧.fields
+        airs.now traces.now alpha.now beta.now (length auxiliary.old) (length terminals.old)
+        auxiliary.new terminals.new result refusal.new }
     ensures kept { result ≢ 0
         → (auxiliary.new ≡ auxiliary.old) × (terminals.new ≡ terminals.old) }
 {
-    let (cells, endings) = (auxiliary.len(), terminals.len());
-    match prove_into_room(alloc, airs, traces, alpha, beta, cells, endings) {
-        Ok(witness) => {
-            write_traces(auxiliary, &witness.aux);
-            write_terminals(terminals, &witness.terminals);
-            accept(refusal)
-        }
-        Err(fault) => refuse(&fault, refusal, text),
-    }
+    answer_prove::<2_013_265_921, BabyBearParameters>(
+        alloc, airs, traces, alpha, beta, auxiliary, terminals, refusal, text,
+    )
 }

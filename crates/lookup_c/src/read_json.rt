@@ -1,13 +1,13 @@
 //! The call that reads lookups from JSON.
 ghost use Rattle.std.specs.Prelude.{◌≡◌, ◌≢◌, MatchResult};
 ghost use Rattle.std.specs.Str.{IsUtf8};
-ghost use Rattle.lookup_c.specs.ReadJson.{AnswersReadJson, IsCallRefusal, IsJsonRefusal, IsTextRefusal, ReadsTables};
-ghost use Rattle.lookup_c.specs.WrittenTables.{HasTableRoom, arrays, sizes_of};
+ghost use Rattle.lookup_c.specs.ReadJson.{AnswersReadJson, IsReadJsonRefusal, IsJsonRefusal, IsJsonTextRefusal, ReadsJsonTables};
+ghost use Rattle.lookup_c.specs.WrittenTables.{HasTableRoom, table_arrays, sizes_of_written};
 
 use crate::fault::Fault;
 use crate::refusal::{Refusal, accept, refuse};
 use crate::written_tables::{TableSizes, tables_for, write_tables};
-use field::BabyBear;
+use field::{BabyBearParameters, MontyField31, QuarticParameters};
 use lookup::{Lookup, Lookups};
 use lookup_tables::{Node, Record, Span, Written};
 use serde_json::error::Category;
@@ -15,7 +15,7 @@ use std::alloc::Global;
 
 /// Why a text was not read.
 fn text_fault(error: serde_json::Error) -> Fault
-    ensures { IsTextRefusal error result }
+    ensures { IsJsonTextRefusal error result }
 {
     if error.classify() == Category::Memory {
         Fault::Memory
@@ -28,10 +28,13 @@ fn text_fault(error: serde_json::Error) -> Fault
 ///
 /// Refuses a text that is no JSON or not that of lookups, and then the first lookup whose lists have
 /// different lengths or whose column is not its index.
-fn set_from_json(alloc: Global, json: &[u8]) -> Result<Lookups<BabyBear>, Fault>
-    ensures { MatchResult result (λ _. IsUtf8 json.now) IsJsonRefusal }
+fn set_from_json<const P: u32, K: QuarticParameters<P>>(
+    alloc: Global,
+    json: &[u8],
+) -> Result<Lookups<MontyField31<P, K>>, Fault>
+    ensures { MatchResult result (λ _. IsUtf8 json.now) (IsJsonRefusal P) }
 {
-    let records: Vec<Lookup<BabyBear>> = match serde_json::from_slice(alloc, json) {
+    let records: Vec<Lookup<MontyField31<P, K>>> = match serde_json::from_slice(alloc, json) {
         Ok(records) => records,
         Err(error) => return Err(text_fault(error)),
     };
@@ -42,13 +45,50 @@ fn set_from_json(alloc: Global, json: &[u8]) -> Result<Lookups<BabyBear>, Fault>
 }
 
 /// Tables of the lookups that a text says.
-fn tables_from_json(alloc: Global, json: &[u8], room: TableSizes) -> Result<Written, Fault>
+fn tables_from_json<const P: u32, K: QuarticParameters<P>>(
+    alloc: Global,
+    json: &[u8],
+    room: TableSizes,
+) -> Result<Written, Fault>
     ensures { MatchResult result
-        (λ w. ReadsTables json.now w × HasTableRoom (sizes_of w) room)
-        (IsCallRefusal json.now room) }
+        (λ w. ReadsJsonTables P json.now w × HasTableRoom (sizes_of_written w) room)
+        (IsReadJsonRefusal P json.now room) }
 {
-    let set = set_from_json(alloc, json)?;
+    let set = set_from_json::<P, K>(alloc, json)?;
     tables_for(alloc, &set, room)
+}
+
+/// The answer of `volgwain_read_json`, over any prime field below 2^31.
+pub(crate) fn answer_read_json<const P: u32, K: QuarticParameters<P>>(
+    alloc: Global,
+    json: &[u8],
+    nodes: &mut [Node],
+    tuples: &mut [Span],
+    names: &mut [u8],
+    records: &mut [Record],
+    sizes: &mut TableSizes,
+    refusal: &mut Refusal,
+    text: &mut [u8],
+) -> u32
+    ensures answers { AnswersReadJson P json.now
+        (table_arrays nodes.old tuples.old names.old records.old)
+        (table_arrays nodes.new tuples.new names.new records.new) sizes.new result refusal.new }
+    ensures kept { result ≢ 0 → (nodes.new ≡ nodes.old) × (tuples.new ≡ tuples.old)
+        × (names.new ≡ names.old) × (records.new ≡ records.old) × (sizes.new ≡ sizes.old) }
+{
+    let room = TableSizes {
+        nodes: nodes.len(),
+        tuples: tuples.len(),
+        names: names.len(),
+        records: records.len(),
+    };
+    match tables_from_json::<P, K>(alloc, json, room) {
+        Ok(made) => {
+            *sizes = write_tables(&made, nodes, tuples, names, records);
+            accept(refusal)
+        }
+        Err(fault) => refuse(&fault, refusal, text),
+    }
 }
 
 /// Reads the lookups of an AIR from JSON into tables.
@@ -68,22 +108,13 @@ pub extern "C" fn volgwain_read_json(
     refusal: &mut Refusal,
     text: &mut [u8],
 ) -> u32
-    ensures answers { AnswersReadJson json.now (arrays nodes.old tuples.old names.old records.old)
-        (arrays nodes.new tuples.new names.new records.new) sizes.new result refusal.new }
+    ensures answers { AnswersReadJson 2013265921 json.now
+        (table_arrays nodes.old tuples.old names.old records.old)
+        (table_arrays nodes.new tuples.new names.new records.new) sizes.new result refusal.new }
     ensures kept { result ≢ 0 → (nodes.new ≡ nodes.old) × (tuples.new ≡ tuples.old)
         × (names.new ≡ names.old) × (records.new ≡ records.old) × (sizes.new ≡ sizes.old) }
 {
-    let room = TableSizes {
-        nodes: nodes.len(),
-        tuples: tuples.len(),
-        names: names.len(),
-        records: records.len(),
-    };
-    match tables_from_json(alloc, json, room) {
-        Ok(made) => {
-            *sizes = write_tables(&made, nodes, tuples, names, records);
-            accept(refusal)
-        }
-        Err(fault) => refuse(&fault, refusal, text),
-    }
+    answer_read_json::<2_013_265_921, BabyBearParameters>(
+        alloc, json, nodes, tuples, names, records, sizes, refusal, text,
+    )
 }

@@ -1,10 +1,11 @@
 //! Ranges of the rows of an AIR.
 ghost use Rattle.std.specs.Prelude.{◌≡◌, MatchResult};
 ghost use Rattle.lookup_c.specs.Inputs.{view_of_read};
-ghost use Rattle.lookup_c.specs.Rows.{HasRowsAround, IsRangeRefusal, range_of};
+ghost use Rattle.lookup_c.specs.Rows.{HasCallRowsAround, IsRowsRefusal, range_of};
 
 use crate::codes::Part;
 use crate::fault::Fault;
+use field::{MontyField31, QuarticParameters};
 use lookup_ranges::RowRange;
 use lookup_tables::ReadTraces;
 
@@ -24,10 +25,14 @@ pub struct Rows {
 ///
 /// Refuses a range that has no rows or ends past the height, and then traces of another height than there
 /// are rows around it.
-pub(crate) fn range_of(rows: &Rows, around: &ReadTraces) -> Result<RowRange, Fault>
+pub(crate) fn range_of<const P: u32, K: QuarticParameters<P>>(
+    rows: &Rows,
+    around: &ReadTraces<MontyField31<P, K>>,
+) -> Result<RowRange, Fault>
     ensures { MatchResult result
-        (λ range. (range ≡ range_of rows.now) × HasRowsAround rows.now (view_of_read around.now))
-        (IsRangeRefusal rows.now (view_of_read around.now)) }
+        (λ range. (range ≡ range_of rows.now)
+        × HasCallRowsAround rows.now (view_of_read around.now))
+        (IsRowsRefusal rows.now (view_of_read around.now)) }
 {
     if rows.first >= rows.end || rows.end > rows.height {
         return Err(Fault::Rows);

@@ -1,24 +1,27 @@
 //! The call that adds to the accumulators of rows, in place.
 ghost use Rattle.std.specs.Prelude.{◌≡◌, ◌≢◌, ◌/◌, ◌==◌, if◌then◌else◌, MatchOption, MatchResult, length};
+ghost use Rattle.field.specs.laws.BabyBear.{baby_bear_positive};
 ghost use Rattle.matrix.specs.Matrix.{IsShaped};
-ghost use Rattle.lookup_tables.specs.Numbers.{AreGroupsBelow, IsFirstLargeGroup};
-ghost use Rattle.lookup_c.specs.Answers.{Answers};
-ghost use Rattle.lookup_c.specs.Shift.{IsRefusal, ShiftsTo, rows_of, shifted_cells};
+ghost use Rattle.lookup_tables.specs.Numbers.{AreNumberGroupsBelow, IsFirstLargeNumberGroup};
+ghost use Rattle.lookup_c.specs.CallAnswers.{CallAnswers};
+ghost use Rattle.lookup_c.specs.Shift.{IsShiftRefusal, ShiftsCells, shift_rows, shifted_cells};
 ghost use Rattle.lookup_c.specs.internal.Shift.{AreShiftable};
 
 use crate::codes::Part;
 use crate::fault::Fault;
 use crate::refusal::{Refusal, accept, refuse};
-use field::{BabyBear4, PrimeCharacteristicRing};
+use field::{
+    BabyBear4, BabyBearParameters, MontyQuartic, PrimeCharacteristicRing, QuarticParameters,
+};
 use lookup_tables::{element_numbers, extension, makes_rows};
 
 /// The index of the first cell that is no element, if there is one.
-fn first_large_cell(cells: &[[u32; 4]]) -> Option<usize>
-    ensures { MatchOption result (AreGroupsBelow (length cells.now) cells.now)
-        (IsFirstLargeGroup cells.now) }
+fn first_large_cell<const P: u32, K: QuarticParameters<P>>(cells: &[[u32; 4]]) -> Option<usize>
+    ensures { MatchOption result (AreNumberGroupsBelow P (length cells.now) cells.now)
+        (IsFirstLargeNumberGroup P cells.now) }
 {
     for (index, group) in cells.iter().enumerate() {
-        match extension(*group) {
+        match extension::<P, K>(*group) {
             Some(_) => {}
             None => return Some(index),
         }
@@ -29,11 +32,15 @@ fn first_large_cell(cells: &[[u32; 4]]) -> Option<usize>
 /// The offset that numbers encode, where the cells are rows.
 ///
 /// Refuses the first of these with a fault: the offset, the width, and a cell.
-fn offset_of(cells: &[[u32; 4]], width: usize, offset: &[u32; 4]) -> Result<BabyBear4, Fault>
-    ensures { MatchResult result (AreShiftable cells.now width offset.now)
-        (IsRefusal cells.now width offset.now) }
+fn offset_of<const P: u32, K: QuarticParameters<P>>(
+    cells: &[[u32; 4]],
+    width: usize,
+    offset: &[u32; 4],
+) -> Result<MontyQuartic<P, K>, Fault>
+    ensures { MatchResult result (AreShiftable K.positive cells.now width offset.now)
+        (IsShiftRefusal P cells.now width offset.now) }
 {
-    let Some(element) = extension(*offset) else {
+    let Some(element) = extension::<P, K>(*offset) else {
         return Err(Fault::Large {
             part: Part::Offset,
             air: 0,
@@ -43,7 +50,7 @@ fn offset_of(cells: &[[u32; 4]], width: usize, offset: &[u32; 4]) -> Result<Baby
     if !makes_rows(cells.len(), width) {
         return Err(Fault::Ragged { air: 0 });
     }
-    match first_large_cell(cells) {
+    match first_large_cell::<P, K>(cells) {
         Some(index) => Err(Fault::Large {
             part: Part::Auxiliary,
             air: 0,
@@ -61,17 +68,44 @@ fn row_count(cells: usize, width: usize) -> usize
 }
 
 /// Adds `offset` to the first cell of each row.
-fn shift_cells(cells: &mut [[u32; 4]], width: usize, offset: BabyBear4)
-    requires shaped { IsShaped (rows_of cells.old width) }
-    requires below { AreGroupsBelow (length cells.old) cells.old }
-    ensures { cells.new ≡ shifted_cells ⟦<BabyBear4 as PrimeCharacteristicRing>⟧.ring offset width
-        cells.old }
+fn shift_cells<const P: u32, K: QuarticParameters<P>>(
+    cells: &mut [[u32; 4]],
+    width: usize,
+    offset: MontyQuartic<P, K>,
+)
+    requires shaped { IsShaped (shift_rows K.positive cells.old width) }
+    requires below { AreNumberGroupsBelow P (length cells.old) cells.old }
+    ensures { cells.new ≡ shifted_cells K.positive
+        ⟦<MontyQuartic<P, K> as PrimeCharacteristicRing>⟧.ring offset width cells.old }
 {
     for row in 0..row_count(cells.len(), width) {
         let at = row * width;
-        if let Some(x) = extension(cells[at]) {
+        if let Some(x) = extension::<P, K>(cells[at]) {
             cells[at] = element_numbers(offset + x);
         }
+    }
+}
+
+/// The answer of `volgwain_shift`, over any prime field below 2^31.
+pub(crate) fn answer_shift<const P: u32, K: QuarticParameters<P>>(
+    cells: &mut [[u32; 4]],
+    width: usize,
+    offset: &[u32; 4],
+    refusal: &mut Refusal,
+    text: &mut [u8],
+) -> u32
+    ensures answers { let R = ⟦<MontyQuartic<P, K> as PrimeCharacteristicRing>⟧.ring in
+        CallAnswers result refusal.new (ShiftsCells K.positive cells.old width offset.now R
+        cells.new)
+        (IsShiftRefusal P cells.old width offset.now) }
+    ensures kept { result ≢ 0 → cells.new ≡ cells.old }
+{
+    match offset_of::<P, K>(cells, width, offset) {
+        Ok(element) => {
+            shift_cells::<P, K>(cells, width, element);
+            accept(refusal)
+        }
+        Err(fault) => refuse(&fault, refusal, text),
     }
 }
 
@@ -86,15 +120,11 @@ pub extern "C" fn volgwain_shift(
     refusal: &mut Refusal,
     text: &mut [u8],
 ) -> u32
-    ensures answers { let R = ⟦<BabyBear4 as PrimeCharacteristicRing>⟧.ring in Answers result refusal.new
-        (ShiftsTo cells.old width offset.now R cells.new) (IsRefusal cells.old width offset.now) }
+    ensures answers { let R = ⟦<BabyBear4 as PrimeCharacteristicRing>⟧.ring in
+        CallAnswers result refusal.new (ShiftsCells baby_bear_positive cells.old width offset.now R
+        cells.new)
+        (IsShiftRefusal 2013265921 cells.old width offset.now) }
     ensures kept { result ≢ 0 → cells.new ≡ cells.old }
 {
-    match offset_of(cells, width, offset) {
-        Ok(element) => {
-            shift_cells(cells, width, element);
-            accept(refusal)
-        }
-        Err(fault) => refuse(&fault, refusal, text),
-    }
+    answer_shift::<2_013_265_921, BabyBearParameters>(cells, width, offset, refusal, text)
 }

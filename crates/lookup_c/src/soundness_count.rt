@@ -1,14 +1,17 @@
 //! The call that counts the messages of a batch.
 ghost use Rattle.std.specs.Prelude.{◌≡◌, ◌≢◌, MatchResult};
-ghost use Rattle.lookup_c.specs.Answers.{Answers};
-ghost use Rattle.lookup_c.specs.SoundnessCount.{AreCountsOf, CountsNumbers, CountsTables, IsLinearBound, IsRefusal};
+ghost use Rattle.field.specs.laws.BabyBear.{baby_bear_positive};
+ghost use Rattle.lookup_c.specs.CallAnswers.{CallAnswers};
+ghost use Rattle.lookup_c.specs.SoundnessCount.{AreSoundnessCountNumbers, SoundnessCountIsNumbers, SoundnessCountOfTables, IsLinearCountBound, IsSoundnessCountRefusal};
 
 use crate::batch_tables::{Air, all_traces, plan_of, plan_traces};
 use crate::fault::Fault;
 use crate::outputs::{Wide, halves, optional_halves};
 use crate::refusal::{Refusal, accept, refuse};
 use checker::SoundnessCount;
-use field::{BabyBear, BabyBear4, Over};
+use field::{
+    BabyBear, BabyBear4, BabyBearParameters, MontyField31, MontyQuartic, Over, QuarticParameters,
+};
 use lookup_tables::Traces;
 use std::alloc::Global;
 
@@ -32,14 +35,14 @@ pub struct Counts {
 
 /// The linear bound of bad betas.
 fn linear_bound(count: &SoundnessCount) -> Wide
-    ensures { IsLinearBound count.now result }
+    ensures { IsLinearCountBound count.now result }
 {
     halves(count.linear_bad_betas())
 }
 
 /// Counts as C sees them.
 fn counts_of(count: &SoundnessCount) -> Counts
-    ensures { AreCountsOf count.now result }
+    ensures { AreSoundnessCountNumbers count.now result }
 {
     let (bounded, accepting_alphas) = optional_halves(count.accepting_alphas);
     Counts {
@@ -55,19 +58,43 @@ fn counts_of(count: &SoundnessCount) -> Counts
 /// The counts of what tables encode.
 ///
 /// Refuses the first of these with a fault: the plan of the AIRs, the traces, and the count.
-fn count_messages(
+fn count_messages<const P: u32, K: QuarticParameters<P>>(
     alloc: Global,
     airs: &[Air<'_>],
     traces: &[Traces<'_>],
 ) -> Result<SoundnessCount, Fault>
-    ensures { let E = ⟦<BabyBear4 as Over<BabyBear>>⟧.fields in
-        MatchResult result (CountsTables E airs.now traces.now)
-        (IsRefusal E airs.now traces.now) }
+    ensures { let E = ⟦<MontyQuartic<P, K> as Over<MontyField31<P, K>>>⟧.fields in
+        MatchResult result (SoundnessCountOfTables K.positive E airs.now traces.now)
+        (IsSoundnessCountRefusal K.positive E airs.now traces.now) }
 {
-    let plan = plan_of(alloc, airs)?;
-    let all = all_traces(alloc, traces)?;
+    let plan = plan_of::<P, K>(alloc, airs)?;
+    let all = all_traces::<P, K>(alloc, traces)?;
     let given = plan_traces(alloc, &all)?;
-    Ok(plan.soundness_count::<BabyBear4>(alloc, &given)?)
+    Ok(plan.soundness_count::<MontyQuartic<P, K>>(alloc, &given)?)
+}
+
+/// The answer of `volgwain_soundness_count`, over any prime field below 2^31.
+pub(crate) fn answer_soundness_count<const P: u32, K: QuarticParameters<P>>(
+    alloc: Global,
+    airs: &[Air<'_>],
+    traces: &[Traces<'_>],
+    counts: &mut Counts,
+    refusal: &mut Refusal,
+    text: &mut [u8],
+) -> u32
+    ensures answers { let E = ⟦<MontyQuartic<P, K> as Over<MontyField31<P, K>>>⟧.fields in
+        CallAnswers result refusal.new (SoundnessCountIsNumbers K.positive E airs.now traces.now
+        counts.new)
+        (IsSoundnessCountRefusal K.positive E airs.now traces.now) }
+    ensures kept { result ≢ 0 → counts.new ≡ counts.old }
+{
+    match count_messages::<P, K>(alloc, airs, traces) {
+        Ok(count) => {
+            *counts = counts_of(&count);
+            accept(refusal)
+        }
+        Err(fault) => refuse(&fault, refusal, text),
+    }
 }
 
 /// Counts the messages of a batch, and bounds the challenges at which it can be accepted if they do not
@@ -84,15 +111,12 @@ pub extern "C" fn volgwain_soundness_count(
     text: &mut [u8],
 ) -> u32
     ensures answers { let E = ⟦<BabyBear4 as Over<BabyBear>>⟧.fields in
-        Answers result refusal.new (CountsNumbers E airs.now traces.now counts.new)
-        (IsRefusal E airs.now traces.now) }
+        CallAnswers result refusal.new (SoundnessCountIsNumbers baby_bear_positive E airs.now
+        traces.now counts.new)
+        (IsSoundnessCountRefusal baby_bear_positive E airs.now traces.now) }
     ensures kept { result ≢ 0 → counts.new ≡ counts.old }
 {
-    match count_messages(alloc, airs, traces) {
-        Ok(count) => {
-            *counts = counts_of(&count);
-            accept(refusal)
-        }
-        Err(fault) => refuse(&fault, refusal, text),
-    }
+    answer_soundness_count::<2_013_265_921, BabyBearParameters>(
+        alloc, airs, traces, counts, refusal, text,
+    )
 }

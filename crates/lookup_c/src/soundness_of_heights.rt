@@ -1,14 +1,16 @@
 //! The call that bounds the challenges of a batch by the heights of its traces alone.
 ghost use Rattle.std.specs.Prelude.{◌≡◌, ◌≢◌, MatchResult};
-ghost use Rattle.lookup_c.specs.SoundnessOfHeights.{AreCountsOf, CountsNumbers, CountsTables, IsRefusal};
-ghost use Rattle.lookup_c.specs.Answers.{Answers};
+ghost use Rattle.lookup_c.specs.SoundnessOfHeights.{AreHeightCountNumbers, HeightCountIsNumbers, HeightCountOfTables, IsSoundnessOfHeightsRefusal};
+ghost use Rattle.lookup_c.specs.CallAnswers.{CallAnswers};
 
 use crate::batch_tables::{Air, plan_of};
 use crate::fault::Fault;
 use crate::outputs::{Wide, halves, optional_halves};
 use crate::refusal::{Refusal, accept, refuse};
 use batch::HeightSoundness;
-use field::{BabyBear, BabyBear4, Over};
+use field::{
+    BabyBear, BabyBear4, BabyBearParameters, MontyField31, MontyQuartic, Over, QuarticParameters,
+};
 use std::alloc::Global;
 
 /// The counts of a batch by its heights.
@@ -27,7 +29,7 @@ pub struct HeightCounts {
 
 /// Counts by heights as C sees them.
 fn counts_of(count: &HeightSoundness) -> HeightCounts
-    ensures { AreCountsOf count.now result }
+    ensures { AreHeightCountNumbers count.now result }
 {
     let (bounded, accepting_alphas) = optional_halves(count.accepting_alphas);
     HeightCounts {
@@ -41,12 +43,38 @@ fn counts_of(count: &HeightSoundness) -> HeightCounts
 /// The counts by heights of what tables encode.
 ///
 /// Refuses the plan of the AIRs, or else the count.
-fn count_by_heights(alloc: Global, airs: &[Air<'_>]) -> Result<HeightSoundness, Fault>
-    ensures { let E = ⟦<BabyBear4 as Over<BabyBear>>⟧.fields in
-        MatchResult result (CountsTables E airs.now) (IsRefusal E airs.now) }
+fn count_by_heights<const P: u32, K: QuarticParameters<P>>(
+    alloc: Global,
+    airs: &[Air<'_>],
+) -> Result<HeightSoundness, Fault>
+    ensures { let E = ⟦<MontyQuartic<P, K> as Over<MontyField31<P, K>>>⟧.fields in
+        MatchResult result (HeightCountOfTables E airs.now)
+        (IsSoundnessOfHeightsRefusal E airs.now) }
 {
-    let plan = plan_of(alloc, airs)?;
-    Ok(plan.soundness_of_heights::<BabyBear4>()?)
+    let plan = plan_of::<P, K>(alloc, airs)?;
+    Ok(plan.soundness_of_heights::<MontyQuartic<P, K>>()?)
+}
+
+/// The answer of `volgwain_soundness_of_heights`, over any prime field below 2^31.
+pub(crate) fn answer_soundness_of_heights<const P: u32, K: QuarticParameters<P>>(
+    alloc: Global,
+    airs: &[Air<'_>],
+    counts: &mut HeightCounts,
+    refusal: &mut Refusal,
+    text: &mut [u8],
+) -> u32
+    ensures answers { let E = ⟦<MontyQuartic<P, K> as Over<MontyField31<P, K>>>⟧.fields in
+        CallAnswers result refusal.new (HeightCountIsNumbers E airs.now counts.new)
+        (IsSoundnessOfHeightsRefusal E airs.now) }
+    ensures kept { result ≢ 0 → counts.new ≡ counts.old }
+{
+    match count_by_heights::<P, K>(alloc, airs) {
+        Ok(count) => {
+            *counts = counts_of(&count);
+            accept(refusal)
+        }
+        Err(fault) => refuse(&fault, refusal, text),
+    }
 }
 
 /// Counts the most messages that a batch over traces of these heights can have, and bounds the challenges
@@ -62,15 +90,11 @@ pub extern "C" fn volgwain_soundness_of_heights(
     text: &mut [u8],
 ) -> u32
     ensures answers { let E = ⟦<BabyBear4 as Over<BabyBear>>⟧.fields in
-        Answers result refusal.new (CountsNumbers E airs.now counts.new)
-        (IsRefusal E airs.now) }
+        CallAnswers result refusal.new (HeightCountIsNumbers E airs.now counts.new)
+        (IsSoundnessOfHeightsRefusal E airs.now) }
     ensures kept { result ≢ 0 → counts.new ≡ counts.old }
 {
-    match count_by_heights(alloc, airs) {
-        Ok(count) => {
-            *counts = counts_of(&count);
-            accept(refusal)
-        }
-        Err(fault) => refuse(&fault, refusal, text),
-    }
+    answer_soundness_of_heights::<2_013_265_921, BabyBearParameters>(
+        alloc, airs, counts, refusal, text,
+    )
 }

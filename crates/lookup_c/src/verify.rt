@@ -1,7 +1,8 @@
 //! The call of a verifier on the plan of a batch.
 ghost use Rattle.std.specs.Prelude.{◌≡◌, ◌≢◌, MatchResult};
-ghost use Rattle.lookup_c.specs.Answers.{Answers};
-ghost use Rattle.lookup_c.specs.Verify.{IsRefusal, VerifiesTables};
+ghost use Rattle.field.specs.laws.BabyBear.{baby_bear_positive};
+ghost use Rattle.lookup_c.specs.CallAnswers.{CallAnswers};
+ghost use Rattle.lookup_c.specs.Verify.{IsVerifyRefusal, VerifiesTables};
 
 use crate::batch_tables::{Air, all_traces, plan_of, plan_traces};
 use crate::codes::Part;
@@ -9,7 +10,9 @@ use crate::fault::Fault;
 use crate::inputs::challenge_of;
 use crate::refusal::{Refusal, accept, refuse};
 use crate::witness::{AirWitness, read_witness};
-use field::{BabyBear, BabyBear4, Over};
+use field::{
+    BabyBear, BabyBear4, BabyBearParameters, MontyField31, MontyQuartic, Over, QuarticParameters,
+};
 use lookup_tables::Traces;
 use std::alloc::Global;
 
@@ -17,7 +20,7 @@ use std::alloc::Global;
 ///
 /// Refuses the first of these with a fault: the plan of the AIRs, the traces, alpha, beta, the witness,
 /// and its verification.
-fn verify_tables(
+fn verify_tables<const P: u32, K: QuarticParameters<P>>(
     alloc: Global,
     airs: &[Air<'_>],
     traces: &[Traces<'_>],
@@ -25,17 +28,40 @@ fn verify_tables(
     beta: &[u32; 4],
     witness: &[AirWitness<'_>],
 ) -> Result<(), Fault>
-    ensures { let E = ⟦<BabyBear4 as Over<BabyBear>>⟧.fields in MatchResult result
-        (λ _. VerifiesTables E airs.now traces.now alpha.now beta.now witness.now)
-        (IsRefusal E airs.now traces.now alpha.now beta.now witness.now) }
+    ensures { let E = ⟦<MontyQuartic<P, K> as Over<MontyField31<P, K>>>⟧.fields in
+        MatchResult result
+        (λ _. VerifiesTables K.positive E airs.now traces.now alpha.now beta.now witness.now)
+        (IsVerifyRefusal K.positive E airs.now traces.now alpha.now beta.now witness.now) }
 {
-    let plan = plan_of(alloc, airs)?;
-    let all = all_traces(alloc, traces)?;
-    let alpha = challenge_of(Part::Alphas, *alpha)?;
-    let beta = challenge_of(Part::Betas, *beta)?;
-    let witness = read_witness(alloc, witness)?;
+    let plan = plan_of::<P, K>(alloc, airs)?;
+    let all = all_traces::<P, K>(alloc, traces)?;
+    let alpha = challenge_of::<P, K>(Part::Alphas, *alpha)?;
+    let beta = challenge_of::<P, K>(Part::Betas, *beta)?;
+    let witness = read_witness::<P, K>(alloc, witness)?;
     let given = plan_traces(alloc, &all)?;
     Ok(plan.verify(alloc, &given, alpha, beta, &witness)?)
+}
+
+/// The answer of `volgwain_verify`, over any prime field below 2^31.
+pub(crate) fn answer_verify<const P: u32, K: QuarticParameters<P>>(
+    alloc: Global,
+    airs: &[Air<'_>],
+    traces: &[Traces<'_>],
+    alpha: &[u32; 4],
+    beta: &[u32; 4],
+    witness: &[AirWitness<'_>],
+    refusal: &mut Refusal,
+    text: &mut [u8],
+) -> u32
+    ensures answers { let E = ⟦<MontyQuartic<P, K> as Over<MontyField31<P, K>>>⟧.fields in
+        CallAnswers result refusal.new
+        (VerifiesTables K.positive E airs.now traces.now alpha.now beta.now witness.now)
+        (IsVerifyRefusal K.positive E airs.now traces.now alpha.now beta.now witness.now) }
+{
+    match verify_tables::<P, K>(alloc, airs, traces, alpha, beta, witness) {
+        Ok(()) => accept(refusal),
+        Err(fault) => refuse(&fault, refusal, text),
+    }
 }
 
 /// Whether a witness of a batch, whoever made it, is accepted.
@@ -54,12 +80,12 @@ pub extern "C" fn volgwain_verify(
     refusal: &mut Refusal,
     text: &mut [u8],
 ) -> u32
-    ensures answers { let E = ⟦<BabyBear4 as Over<BabyBear>>⟧.fields in Answers result refusal.new
-        (VerifiesTables E airs.now traces.now alpha.now beta.now witness.now)
-        (IsRefusal E airs.now traces.now alpha.now beta.now witness.now) }
+    ensures answers { let E = ⟦<BabyBear4 as Over<BabyBear>>⟧.fields in
+        CallAnswers result refusal.new
+        (VerifiesTables baby_bear_positive E airs.now traces.now alpha.now beta.now witness.now)
+        (IsVerifyRefusal baby_bear_positive E airs.now traces.now alpha.now beta.now witness.now) }
 {
-    match verify_tables(alloc, airs, traces, alpha, beta, witness) {
-        Ok(()) => accept(refusal),
-        Err(fault) => refuse(&fault, refusal, text),
-    }
+    answer_verify::<2_013_265_921, BabyBearParameters>(
+        alloc, airs, traces, alpha, beta, witness, refusal, text,
+    )
 }

@@ -1,9 +1,10 @@
 //! The call of a verifier on a range of the rows of one AIR.
 ghost use Rattle.std.specs.Prelude.{◌≡◌, MatchResult};
+ghost use Rattle.field.specs.laws.BabyBear.{baby_bear_positive};
 ghost use Rattle.lookup_model.specs.Batches.Instances.{instance_of};
-ghost use Rattle.lookup_c.specs.Answers.{Answers};
+ghost use Rattle.lookup_c.specs.CallAnswers.{CallAnswers};
 ghost use Rattle.lookup_c.specs.Inputs.{view_of_read};
-ghost use Rattle.lookup_c.specs.VerifyRows.{IsRefusal, VerifiesRows, instance_over};
+ghost use Rattle.lookup_c.specs.VerifyRows.{IsVerifyRowsRefusal, CallVerifiesRows, instance_with_ids};
 ghost use Rattle.lookup_c.specs.internal.PlannedAirs.{IsVerificationRefusal, VerifiesInPlan};
 
 use crate::fault::Fault;
@@ -14,16 +15,21 @@ use crate::rows::{Rows, range_of};
 use crate::witness::{AirWitness, read_auxiliary, read_terminal};
 use batch::BatchError;
 use checker::{BatchInstance, check_shape};
-use field::{BabyBear, BabyBear4, Over};
+use field::{
+    BabyBear, BabyBear4, BabyBearParameters, MontyField31, MontyQuartic, Over, QuarticParameters,
+};
 use lookup::LookupError;
 use lookup_ranges::rows_hold_around;
 use lookup_tables::{Tables, Traces};
 use std::alloc::Global;
 
 /// An AIR with these ids, as a check takes it.
-fn instance_of<'a>(air: &'a PlannedAir, ids: &'a [usize]) -> BatchInstance<'a, BabyBear>
+fn instance_of<'a, const P: u32, K: QuarticParameters<P>>(
+    air: &'a PlannedAir<MontyField31<P, K>, MontyQuartic<P, K>>,
+    ids: &'a [usize],
+) -> BatchInstance<'a, MontyField31<P, K>>
     ensures { instance_of result
-        ≡ instance_over air.now.lookups.items ids.now (view_of_read air.now.traces) }
+        ≡ instance_with_ids air.now.lookups.items ids.now (view_of_read air.now.traces) }
 {
     BatchInstance {
         lookups: &air.lookups,
@@ -39,7 +45,7 @@ fn instance_of<'a>(air: &'a PlannedAir, ids: &'a [usize]) -> BatchInstance<'a, B
 ///
 /// Refuses the first of these with a fault: the AIR, as `read_air` does, the range, the height of the traces,
 /// the witness, its shape, and a row on which a constraint is not zero.
-fn verify_tables(
+fn verify_tables<const P: u32, K: QuarticParameters<P>>(
     alloc: Global,
     tables: &Tables<'_>,
     around: &Traces<'_>,
@@ -47,14 +53,15 @@ fn verify_tables(
     plan: &InPlan<'_>,
     witness: &AirWitness<'_>,
 ) -> Result<(), Fault>
-    ensures { let E = ⟦<BabyBear4 as Over<BabyBear>>⟧.fields in MatchResult result
-        (λ _. VerifiesInPlan E tables.now around.now rows.now plan.now witness.now)
-        (IsVerificationRefusal E tables.now around.now rows.now plan.now witness.now) }
+    ensures { let E = ⟦<MontyQuartic<P, K> as Over<MontyField31<P, K>>>⟧.fields in
+        MatchResult result
+        (λ _. VerifiesInPlan K.positive E tables.now around.now rows.now plan.now witness.now)
+        (IsVerificationRefusal K.positive E tables.now around.now rows.now plan.now witness.now) }
 {
-    let air = read_air(alloc, tables, around, plan)?;
+    let air = read_air::<P, K>(alloc, tables, around, plan)?;
     let range = range_of(rows, &air.traces)?;
-    let aux = read_auxiliary(alloc, 0, witness)?;
-    let terminal = read_terminal(0, witness.terminal)?;
+    let aux = read_auxiliary::<P, K>(alloc, 0, witness)?;
+    let terminal = read_terminal::<P, K>(0, witness.terminal)?;
     let instance = instance_of(&air, plan.ids);
     if let Err(error) = check_shape(0, &instance, &aux, &terminal) {
         return Err(Fault::Batch(BatchError::Lookup(error)));
@@ -65,6 +72,39 @@ fn verify_tables(
         return Err(Fault::Batch(BatchError::Lookup(error)));
     }
     Ok(())
+}
+
+/// The answer of `volgwain_verify_rows`, over any prime field below 2^31.
+pub(crate) fn answer_verify_rows<const P: u32, K: QuarticParameters<P>>(
+    alloc: Global,
+    tables: &Tables<'_>,
+    around: &Traces<'_>,
+    rows: &Rows,
+    ids: &[usize],
+    sizes: &PlanSizes,
+    alpha: &[u32; 4],
+    beta: &[u32; 4],
+    witness: &AirWitness<'_>,
+    refusal: &mut Refusal,
+    text: &mut [u8],
+) -> u32
+    ensures answers { let E = ⟦<MontyQuartic<P, K> as Over<MontyField31<P, K>>>⟧.fields in
+        CallAnswers result refusal.new
+        (CallVerifiesRows K.positive E tables.now around.now rows.now ids.now sizes.now alpha.now
+        beta.now witness.now)
+        (IsVerifyRowsRefusal K.positive E tables.now around.now rows.now ids.now sizes.now alpha.now
+        beta.now witness.now) }
+{
+    let plan = InPlan {
+        ids,
+        sizes,
+        alpha,
+        beta,
+    };
+    match verify_tables::<P, K>(alloc, tables, around, rows, &plan, witness) {
+        Ok(()) => accept(refusal),
+        Err(fault) => refuse(&fault, refusal, text),
+    }
 }
 
 /// Whether every constraint of one AIR of a planned batch is zero on the rows of a range.
@@ -88,18 +128,14 @@ pub extern "C" fn volgwain_verify_rows(
     refusal: &mut Refusal,
     text: &mut [u8],
 ) -> u32
-    ensures answers { let E = ⟦<BabyBear4 as Over<BabyBear>>⟧.fields in Answers result refusal.new
-        (VerifiesRows E tables.now around.now rows.now ids.now sizes.now alpha.now beta.now witness.now)
-        (IsRefusal E tables.now around.now rows.now ids.now sizes.now alpha.now beta.now witness.now) }
+    ensures answers { let E = ⟦<BabyBear4 as Over<BabyBear>>⟧.fields in
+        CallAnswers result refusal.new
+        (CallVerifiesRows baby_bear_positive E tables.now around.now rows.now ids.now sizes.now
+        alpha.now beta.now witness.now)
+        (IsVerifyRowsRefusal baby_bear_positive E tables.now around.now rows.now ids.now sizes.now
+        alpha.now beta.now witness.now) }
 {
-    let plan = InPlan {
-        ids,
-        sizes,
-        alpha,
-        beta,
-    };
-    match verify_tables(alloc, tables, around, rows, &plan, witness) {
-        Ok(()) => accept(refusal),
-        Err(fault) => refuse(&fault, refusal, text),
-    }
+    answer_verify_rows::<2_013_265_921, BabyBearParameters>(
+        alloc, tables, around, rows, ids, sizes, alpha, beta, witness, refusal, text,
+    )
 }

@@ -1,13 +1,13 @@
 //! Witnesses as a verifier gets them.
 ghost use Rattle.std.specs.Prelude.{◌≡◌, MatchResult, length, true};
-ghost use Rattle.lookup_c.specs.Witnesses.{AreWitness, IsAuxiliary, IsAuxiliaryRefusal, IsTerminal, IsTerminalRefusal, IsWitnessRefusal, terminal_of};
+ghost use Rattle.lookup_c.specs.Witnesses.{IsWitnessOfNumbers, IsWitnessAuxiliary, IsWitnessAuxiliaryRefusal, IsWitnessTerminal, IsWitnessTerminalRefusal, IsWitnessRefusal, witness_terminal};
 
 use crate::codes::Part;
 use crate::fault::Fault;
 use crate::inputs::list_of;
 use crate::outputs::Terminal;
 use checker::Witness;
-use field::BabyBear4;
+use field::{MontyQuartic, QuarticParameters};
 use lookup::LookupTerminal;
 use lookup_tables::{extension, makes_rows};
 use matrix::RowMajorMatrix;
@@ -28,36 +28,37 @@ pub struct AirWitness<'a> {
 /// The auxiliary trace of an AIR.
 ///
 /// Refuses cells that make no whole rows, and then the first one that is no element.
-pub(crate) fn read_auxiliary(
+pub(crate) fn read_auxiliary<const P: u32, K: QuarticParameters<P>>(
     alloc: Global,
     air: usize,
     witness: &AirWitness<'_>,
-) -> Result<RowMajorMatrix<BabyBear4>, Fault>
-    ensures { MatchResult result (IsAuxiliary witness.now)
-        (IsAuxiliaryRefusal air witness.now) }
+) -> Result<RowMajorMatrix<MontyQuartic<P, K>>, Fault>
+    ensures { MatchResult result (IsWitnessAuxiliary K.positive witness.now)
+        (IsWitnessAuxiliaryRefusal P air witness.now) }
 {
     let width = witness.width;
     if !makes_rows(witness.auxiliary.len(), width) {
         return Err(Fault::Ragged { air });
     }
-    let values = list_of(alloc, Part::Auxiliary, air, witness.auxiliary)?;
+    let values = list_of::<P, K>(alloc, Part::Auxiliary, air, witness.auxiliary)?;
     Ok(RowMajorMatrix::new(values, width))
 }
 
 /// The terminal of an AIR.
 ///
 /// Refuses one that is present and no element.
-pub(crate) fn read_terminal(
+pub(crate) fn read_terminal<const P: u32, K: QuarticParameters<P>>(
     air: usize,
     terminal: Terminal,
-) -> Result<Option<LookupTerminal<BabyBear4>>, Fault>
-    ensures { MatchResult result (λ t. (t ≡ terminal_of terminal) × IsTerminal terminal)
-        (IsTerminalRefusal air terminal) }
+) -> Result<Option<LookupTerminal<MontyQuartic<P, K>>>, Fault>
+    ensures { MatchResult result (λ t. (t ≡ witness_terminal K.positive terminal)
+        × IsWitnessTerminal P terminal)
+        (IsWitnessTerminalRefusal P air terminal) }
 {
     if terminal.present == 0 {
         return Ok(None);
     }
-    match extension(terminal.value) {
+    match extension::<P, K>(terminal.value) {
         Some(x) => Ok(Some(LookupTerminal(x))),
         None => Err(Fault::Large {
             part: Part::Terminals,
@@ -71,17 +72,18 @@ pub(crate) fn read_terminal(
 ///
 /// Refuses the first AIR whose auxiliary trace, or then whose terminal, is refused. Also fails when out of
 /// memory.
-pub(crate) fn read_witness(
+pub(crate) fn read_witness<const P: u32, K: QuarticParameters<P>>(
     alloc: Global,
     witness: &[AirWitness<'_>],
-) -> Result<Witness<BabyBear4>, Fault>
-    ensures { MatchResult result (AreWitness witness.now) (IsWitnessRefusal witness.now) }
+) -> Result<Witness<MontyQuartic<P, K>>, Fault>
+    ensures { MatchResult result (IsWitnessOfNumbers K.positive witness.now)
+        (IsWitnessRefusal P witness.now) }
 {
     let mut aux = Vec::with_capacity(alloc, witness.len())?;
     let mut terminals = Vec::with_capacity(alloc, witness.len())?;
     for (index, air) in witness.iter().enumerate() {
-        aux.push(read_auxiliary(alloc, index, air)?)?;
-        terminals.push(read_terminal(index, air.terminal)?)?;
+        aux.push(read_auxiliary::<P, K>(alloc, index, air)?)?;
+        terminals.push(read_terminal::<P, K>(index, air.terminal)?)?;
     }
     Ok(Witness { aux, terminals })
 }

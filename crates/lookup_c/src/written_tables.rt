@@ -1,13 +1,13 @@
 //! Tables that calls write.
 ghost use Rattle.std.specs.Prelude.{◌≡◌, ◌<◌, ◌≤◌, MatchResult, length};
 ghost use Rattle.lookup.specs.Lookups.{lookups_of};
-ghost use Rattle.lookup_tables.specs.Written.{EncodesWritten};
-ghost use Rattle.lookup_c.specs.WrittenTables.{HasTableRoom, IsTableRoomRefusal, IsUnencodableRefusal, IsWritingRefusal, WritesTables, arrays, room_of, sizes_of, written_over};
+ghost use Rattle.lookup_tables.specs.Written.{WrittenEncodes};
+ghost use Rattle.lookup_c.specs.WrittenTables.{HasTableRoom, IsTableRoomRefusal, IsUnwritableRefusal, IsTableWritingRefusal, WritesTables, table_arrays, room_of_arrays, sizes_of_written, written_over};
 ghost use Rattle.lookup_c.specs.declared.fault.Fault.TheVariants.{Length};
 
 use crate::codes::Part;
 use crate::fault::Fault;
-use field::BabyBear;
+use field::{MontyField31, QuarticParameters};
 use lookup::Lookups;
 use lookup_tables::{Node, Record, Span, TableFault, Written, write_lookups};
 use std::alloc::Global;
@@ -28,7 +28,7 @@ pub struct TableSizes {
 
 /// The sizes of tables.
 fn sizes_of(tables: &Written) -> TableSizes
-    ensures { result ≡ sizes_of tables.now }
+    ensures { result ≡ sizes_of_written tables.now }
 {
     TableSizes {
         nodes: tables.nodes.len(),
@@ -41,9 +41,12 @@ fn sizes_of(tables: &Written) -> TableSizes
 /// Tables of the lookups of a set.
 ///
 /// Refuses the first lookup that no tables encode.
-fn tables_of(alloc: Global, set: &Lookups<BabyBear>) -> Result<Written, Fault>
-    ensures { MatchResult result (λ tables. EncodesWritten tables (lookups_of set.now))
-        (IsUnencodableRefusal (lookups_of set.now)) }
+fn tables_of<const P: u32, K: QuarticParameters<P>>(
+    alloc: Global,
+    set: &Lookups<MontyField31<P, K>>,
+) -> Result<Written, Fault>
+    ensures { MatchResult result (λ tables. WrittenEncodes tables (lookups_of set.now))
+        (IsUnwritableRefusal (lookups_of set.now)) }
 {
     match write_lookups(alloc, set.as_slice()) {
         Ok(tables) => Ok(tables),
@@ -75,8 +78,8 @@ fn check_items(part: Part, expected: usize, actual: usize) -> Result<(), Fault>
 ///
 /// Refuses the first array that is too short: of nodes, tuples, names, and records.
 fn check_table_room(tables: &Written, room: TableSizes) -> Result<(), Fault>
-    ensures { MatchResult result (λ _. HasTableRoom (sizes_of tables.now) room)
-        (IsTableRoomRefusal (sizes_of tables.now) room) }
+    ensures { MatchResult result (λ _. HasTableRoom (sizes_of_written tables.now) room)
+        (IsTableRoomRefusal (sizes_of_written tables.now) room) }
 {
     let sizes = sizes_of(tables);
     check_items(Part::Nodes, sizes.nodes, room.nodes)?;
@@ -88,14 +91,14 @@ fn check_table_room(tables: &Written, room: TableSizes) -> Result<(), Fault>
 /// Tables of the lookups of a set, for which arrays of these sizes have room.
 ///
 /// Refuses the first lookup that no tables encode, and then the first array that is too short.
-pub(crate) fn tables_for(
+pub(crate) fn tables_for<const P: u32, K: QuarticParameters<P>>(
     alloc: Global,
-    set: &Lookups<BabyBear>,
+    set: &Lookups<MontyField31<P, K>>,
     room: TableSizes,
 ) -> Result<Written, Fault>
     ensures { MatchResult result
-        (λ w. EncodesWritten w (lookups_of set.now) × HasTableRoom (sizes_of w) room)
-        (IsWritingRefusal (lookups_of set.now) room) }
+        (λ w. WrittenEncodes w (lookups_of set.now) × HasTableRoom (sizes_of_written w) room)
+        (IsTableWritingRefusal (lookups_of set.now) room) }
 {
     let made = tables_of(alloc, set)?;
     check_table_room(&made, room)?;
@@ -120,10 +123,10 @@ pub(crate) fn write_tables(
     names: &mut [u8],
     records: &mut [Record],
 ) -> TableSizes
-    requires { HasTableRoom (sizes_of tables.now)
-        (room_of (arrays nodes.old tuples.old names.old records.old)) }
-    ensures { WritesTables tables.now (arrays nodes.old tuples.old names.old records.old)
-        (arrays nodes.new tuples.new names.new records.new) result }
+    requires { HasTableRoom (sizes_of_written tables.now)
+        (room_of_arrays (table_arrays nodes.old tuples.old names.old records.old)) }
+    ensures { WritesTables tables.now (table_arrays nodes.old tuples.old names.old records.old)
+        (table_arrays nodes.new tuples.new names.new records.new) result }
 {
     write_items(nodes, &tables.nodes);
     write_items(tuples, &tables.tuples);

@@ -114,7 +114,7 @@ module _ {F K : Type 0} (fields : Fields F K) (machine : Machine) where
       ⊎ ((beta : K) × fields.written beta_word beta
       × ((e ≡ CannotReadInput) ⊎ IsReportRefusal alpha beta input e))))))
 
-module _ {F K F' K' F'' K'' : Type 0} (f7 : Fields F K) (babybear4 : Fields F' K') (goldilocks2 : Fields F'' K'') where
+module _ {F K F' K' F'' K'' F''' K''' : Type 0} (f7 : Fields F K) (babybear4 : Fields F' K') (koalabear4 : Fields F'' K'') (goldilocks2 : Fields F''' K''') where
   -- the answer to four words and an input: the machine is checked before the field
   abbrev pub AnswersFour : List ℕ → List ℕ → List ℕ → List ℕ → List ℕ → Result Report RunError → Type 0
   AnswersFour name field alpha beta input answer =
@@ -123,8 +123,9 @@ module _ {F K F' K' F'' K'' : Type 0} (f7 : Fields F K) (babybear4 : Fields F' K
       ⊎ ((machine : Machine) × (name ≡ name_of machine)
       × (((field ≡ codes "f7") × AnswersOver f7 machine alpha beta input answer)
       ⊎ (((field ≡ codes "babybear4") × AnswersOver babybear4 machine alpha beta input answer)
+      ⊎ (((field ≡ codes "koalabear4") × AnswersOver koalabear4 machine alpha beta input answer)
       ⊎ (((field ≡ codes "goldilocks2") × AnswersOver goldilocks2 machine alpha beta input answer)
-      ⊎ ((field ≢ codes "f7") × (field ≢ codes "babybear4") × (field ≢ codes "goldilocks2") × ((e : RunError) × ShowsWord UnknownField field e × (answer ≡ Err e))))))))
+      ⊎ ((field ≢ codes "f7") × (field ≢ codes "babybear4") × (field ≢ codes "koalabear4") × (field ≢ codes "goldilocks2") × ((e : RunError) × ShowsWord UnknownField field e × (answer ≡ Err e)))))))))
 
   -- the answer to words and an input: anything but four words is refused
   unfoldable pub Answers : List (List ℕ) → List ℕ → Result Report RunError → Type 0

@@ -7,7 +7,8 @@ ghost use Rattle.lookup_program.specs.internal.Fields.{run_fields};
 ghost use Rattle.lookup_program.specs.internal.Words.{number_bound};
 
 use field::{
-    BabyBear, BabyBear4, ExtensionDomain, ExtensionField, F7, Field, PrimeCharacteristicRing,
+    ExtensionDomain, ExtensionField, F7, Field, MontyField31, MontyQuartic,
+    PrimeCharacteristicRing, QuarticParameters,
 };
 use goldilocks::{Goldilocks, Goldilocks2};
 
@@ -40,22 +41,24 @@ impl Challenge<F7> for F7 {
 
 /// Four numbers below the characteristic, separated by commas: the coefficients of
 /// `1, X, X^2, X^3`.
-impl Challenge<BabyBear> for BabyBear4 {
+impl<const P: u32, K: QuarticParameters<P>> Challenge<MontyField31<P, K>> for MontyQuartic<P, K> {
     ghost written = { λ word x. WritesQuartic word x };
 
-    ghost fields = { run_fields ⟦<BabyBear as PrimeCharacteristicRing>⟧.ring
-        ⟦<BabyBear as PartialEq>⟧.eq 2013265921 ⟦<BabyBear4 as PrimeCharacteristicRing>⟧.ring
-        ⟦<BabyBear4 as PartialEq>⟧.eq
-        ⟦<BabyBear4 as ExtensionDomain<BabyBear>>⟧.embed ⟦<BabyBear4 as Field>⟧.inverse
-        (λ word x. WritesQuartic word x) ⟦<BabyBear4 as Field>⟧.text ⟦<BabyBear as Field>⟧.text };
+    ghost fields = { run_fields ⟦<MontyField31<P, K> as PrimeCharacteristicRing>⟧.ring
+        ⟦<MontyField31<P, K> as PartialEq>⟧.eq P
+        ⟦<MontyQuartic<P, K> as PrimeCharacteristicRing>⟧.ring
+        ⟦<MontyQuartic<P, K> as PartialEq>⟧.eq
+        ⟦<MontyQuartic<P, K> as ExtensionDomain<MontyField31<P, K>>>⟧.embed
+        ⟦<MontyQuartic<P, K> as Field>⟧.inverse (λ word x. WritesQuartic word x)
+        ⟦<MontyQuartic<P, K> as Field>⟧.text ⟦<MontyField31<P, K> as Field>⟧.text };
 
-    fn from_word(word: &[u8]) -> Option<BabyBear4> {
+    fn from_word(word: &[u8]) -> Option<MontyQuartic<P, K>> {
         let mut numbers = [0; 4];
-        if !read_coefficients(word, BabyBear::CHARACTERISTIC, &mut numbers) {
+        if !read_coefficients(word, P as u128, &mut numbers) {
             return None;
         }
         let [c0, c1, c2, c3] = numbers;
-        Some(BabyBear4::new([times_one(c0), times_one(c1), times_one(c2), times_one(c3)]))
+        Some(MontyQuartic::new([times_one(c0), times_one(c1), times_one(c2), times_one(c3)]))
     }
 }
 

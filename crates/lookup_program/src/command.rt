@@ -9,7 +9,7 @@ use crate::challenge::Challenge;
 use crate::error::RunError;
 use crate::machine::Machine;
 use crate::report::{Report, report_of};
-use field::{BabyBear, BabyBear4, F7, Field};
+use field::{BabyBear, BabyBear4, F7, Field, KoalaBear, KoalaBear4};
 use goldilocks::{Goldilocks, Goldilocks2};
 use std::alloc::Global;
 use std::io;
@@ -33,6 +33,7 @@ pub fn run<R: Read, W: Write, E: Write>(
     ensures { (bytes : List ℕ) × (answer : Result Report RunError)
         × IfSome (R.remaining input.old) (λ known. bytes ≡ known)
         × Answers ⟦<F7 as Challenge<F7>>⟧.fields ⟦<BabyBear4 as Challenge<BabyBear>>⟧.fields
+        ⟦<KoalaBear4 as Challenge<KoalaBear>>⟧.fields
         ⟦<Goldilocks2 as Challenge<Goldilocks>>⟧.fields (map string_bytes words.now) bytes answer
         × Ends W.contents E.contents answer (exit_status result) output.old output.new errors.old
         errors.new }
@@ -91,6 +92,7 @@ fn write_and_flush<W: Write>(bytes: &[u8], output: &mut W) -> io::Result<()>
 fn answer<R: Read>(alloc: Global, words: &[String], input: &mut R) -> Result<Report, RunError>
     ensures { (bytes : List ℕ) × IfSome (R.remaining input.old) (λ known. bytes ≡ known)
         × Answers ⟦<F7 as Challenge<F7>>⟧.fields ⟦<BabyBear4 as Challenge<BabyBear>>⟧.fields
+        ⟦<KoalaBear4 as Challenge<KoalaBear>>⟧.fields
         ⟦<Goldilocks2 as Challenge<Goldilocks>>⟧.fields (map string_bytes words.now) bytes result }
 {
     let [machine, field, alpha, beta] = words else {
@@ -102,6 +104,7 @@ fn answer<R: Read>(alloc: Global, words: &[String], input: &mut R) -> Result<Rep
     match field.as_str() {
         "f7" => answer_over::<F7, F7, R>(alloc, machine, alpha, beta, input),
         "babybear4" => answer_over::<BabyBear, BabyBear4, R>(alloc, machine, alpha, beta, input),
+        "koalabear4" => answer_over::<KoalaBear, KoalaBear4, R>(alloc, machine, alpha, beta, input),
         "goldilocks2" => {
             answer_over::<Goldilocks, Goldilocks2, R>(alloc, machine, alpha, beta, input)
         }

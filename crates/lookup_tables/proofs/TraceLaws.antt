@@ -4,7 +4,7 @@ use Rattle.std.proofs.Math.Dec.{eqb-suc-zero}
 use Rattle.std.proofs.lemmas.Bool.{eqb-true}
 use Rattle.std.proofs.lemmas.Nat.{div-add-mod'}
 use Rattle.matrix.specs.Matrix.{IsShaped}
-use Rattle.lookup_tables.specs.Traces.{makes_rows}
+use Rattle.lookup_tables.specs.TraceNumbers.{makes_rows}
 
 rows_are : (n w : ℕ) → makes_rows n w ≡ true → n ≡ (if w == 0 then 0 else (n / w)) * w
 rows_are n zero rows = eqb-true n 0 rows

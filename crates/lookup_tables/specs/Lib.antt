@@ -1,6 +1,6 @@
 pub mod Nodes
 pub mod Numbers
 pub mod Tables
-pub mod Traces
+pub mod TraceNumbers
 pub mod Written
 pub mod internal

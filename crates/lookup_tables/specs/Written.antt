@@ -11,8 +11,9 @@ use Rattle.expressions.specs.declared.base_expression.SymbolicExpression.{Symbol
 use Rattle.expressions.specs.declared.variable.BaseEntry.{BaseEntry}
 use Rattle.expressions.specs.declared.variable.BaseEntry.TheVariants.{Preprocessed, Main, Public}
 use Rattle.lookup_model.specs.declared.types.Lookup.{Lookup}
-use Rattle.lookup_tables.specs.Nodes.{BabyBear, nodes_of}
-use Rattle.lookup_tables.specs.Tables.{AreLookups}
+use Rattle.field.specs.Residue.{Residue}
+use Rattle.lookup_tables.specs.Nodes.{nodes_of}
+use Rattle.lookup_tables.specs.Tables.{AreTableLookups}
 use Rattle.lookup_tables.specs.declared.nodes.Node.{Node}
 use Rattle.lookup_tables.specs.declared.tables.Record.{Record}
 use Rattle.lookup_tables.specs.declared.tables.Span.{Span}
@@ -22,83 +23,83 @@ use Rattle.lookup_tables.specs.declared.tables.Tables.{Tables}
 use Rattle.lookup_tables.specs.declared.writer.Written.{Written}
 
 -- the row of a cell has a number of 32 bits
-abbrev pub IsNearEntry : BaseEntry → Type 0
-IsNearEntry (Preprocessed offset) = offset < 2 ^ 32
-IsNearEntry (Main offset) = offset < 2 ^ 32
-IsNearEntry Public = Unit {0}
+abbrev pub IsWritableEntry : BaseEntry → Type 0
+IsWritableEntry (Preprocessed offset) = offset < 2 ^ 32
+IsWritableEntry (Main offset) = offset < 2 ^ 32
+IsWritableEntry Public = Unit {0}
 
-abbrev pub IsNearLeaf : BaseLeaf BabyBear → Type 0
-IsNearLeaf (Variable v) = IsNearEntry v.entry
-IsNearLeaf IsFirstRow = Unit {0}
-IsNearLeaf IsLastRow = Unit {0}
-IsNearLeaf IsTransition = Unit {0}
-IsNearLeaf (Constant c) = Unit {0}
+abbrev pub IsWritableLeaf : {p : ℕ} → BaseLeaf (Residue p) → Type 0
+IsWritableLeaf (Variable v) = IsWritableEntry v.entry
+IsWritableLeaf IsFirstRow = Unit {0}
+IsWritableLeaf IsLastRow = Unit {0}
+IsWritableLeaf IsTransition = Unit {0}
+IsWritableLeaf (Constant c) = Unit {0}
 
-abbrev pub IsNear : Tree BabyBear → Type 0
-IsNear (leaf l) = IsNearLeaf l
-IsNear (add a b) = IsNear a × IsNear b
-IsNear (sub a b) = IsNear a × IsNear b
-IsNear (mul a b) = IsNear a × IsNear b
-IsNear (neg a) = IsNear a
+abbrev pub HasWritableCells : {p : ℕ} → Tree (Residue p) → Type 0
+HasWritableCells (leaf l) = IsWritableLeaf l
+HasWritableCells (add a b) = HasWritableCells a × HasWritableCells b
+HasWritableCells (sub a b) = HasWritableCells a × HasWritableCells b
+HasWritableCells (mul a b) = HasWritableCells a × HasWritableCells b
+HasWritableCells (neg a) = HasWritableCells a
 
 -- a tree that nodes encode, if it is at most so deep
-abbrev pub IsEncodableWithin : ℕ → Tree BabyBear → Type 0
-IsEncodableWithin depth t = IsNear t × (depth_of t ≤ depth)
+abbrev pub IsWritableWithin : {p : ℕ} → ℕ → Tree (Residue p) → Type 0
+IsWritableWithin depth t = HasWritableCells t × (depth_of t ≤ depth)
 
 -- a list of expressions that nodes encode: none too deep, and not too many nodes
-pub record AreSayable (expressions : List (SymbolicExpression BabyBear)) : Type 0 where
-  pub each : All (λ e. IsEncodableWithin 1024 (tree_of e)) expressions
+pub record AreWritableExpressions {p : ℕ} (expressions : List (SymbolicExpression (Residue p))) : Type 0 where
+  pub each : All (λ e. IsWritableWithin 1024 (tree_of e)) expressions
   pub short : length (flat_map nodes_of (map tree_of expressions)) ≤ 1048576
 
 -- the same of flags, if there are any
-abbrev pub AreSayableFlags : Option (Vec (SymbolicExpression BabyBear) Global) → Type 0
-AreSayableFlags None = Unit {0}
-AreSayableFlags (Some flags) = AreSayable flags.items
+abbrev pub AreWritableFlags : {p : ℕ} → Option (Vec (SymbolicExpression (Residue p)) Global) → Type 0
+AreWritableFlags None = Unit {0}
+AreWritableFlags (Some flags) = AreWritableExpressions flags.items
 
 -- a lookup that tables encode
-pub record IsEncodable (lookup : Lookup BabyBear) : Type 0 where
-  pub elements : All (λ tuple. AreSayable tuple.items) lookup.elements.items
-  pub multiplicities : AreSayable lookup.multiplicities.items
-  pub flags : AreSayableFlags lookup.flags
+pub record IsWritableLookup {p : ℕ} (lookup : Lookup (Residue p)) : Type 0 where
+  pub elements : All (λ tuple. AreWritableExpressions tuple.items) lookup.elements.items
+  pub multiplicities : AreWritableExpressions lookup.multiplicities.items
+  pub flags : AreWritableFlags lookup.flags
 
 -- why nodes can't encode a tree that is to be at most so deep
-abbrev pub IsTreeFault : ℕ → Tree BabyBear → TableFault → Type 0
-IsTreeFault depth t RowTooLarge = ¬ IsNear t
-IsTreeFault depth t TooDeep = depth < depth_of t
-IsTreeFault depth t _ = ⊥
+abbrev pub IsWritingTreeFault : {p : ℕ} → ℕ → Tree (Residue p) → TableFault → Type 0
+IsWritingTreeFault depth t RowTooLarge = ¬ HasWritableCells t
+IsWritingTreeFault depth t TooDeep = depth < depth_of t
+IsWritingTreeFault depth t _ = ⊥
 
 -- why nodes can't encode a list of expressions
-abbrev pub IsListFault : List (SymbolicExpression BabyBear) → TableFault → Type 0
-IsListFault expressions e =
+abbrev pub IsWritingListFault : {p : ℕ} → List (SymbolicExpression (Residue p)) → TableFault → Type 0
+IsWritingListFault {p} expressions e =
     ((e ≡ TooManyNodesWritten) × (1048576 < length (flat_map nodes_of (map tree_of expressions))))
-    ⊎ ((i : ℕ) × (x : SymbolicExpression BabyBear) × (slice_get expressions i ≡ Some x) × IsTreeFault 1024 (tree_of x) e)
+    ⊎ ((i : ℕ) × (x : SymbolicExpression (Residue p)) × (slice_get expressions i ≡ Some x) × IsWritingTreeFault 1024 (tree_of x) e)
 
 -- the same of tuples, and of flags, if there are any
-abbrev pub IsElementsFault : List (Vec (SymbolicExpression BabyBear) Global) → TableFault → Type 0
-IsElementsFault tuples e =
-    (i : ℕ) × (tuple : Vec (SymbolicExpression BabyBear) Global) × (slice_get tuples i ≡ Some tuple) × IsListFault tuple.items e
+abbrev pub IsWritingTuplesFault : {p : ℕ} → List (Vec (SymbolicExpression (Residue p)) Global) → TableFault → Type 0
+IsWritingTuplesFault {p} tuples e =
+    (i : ℕ) × (tuple : Vec (SymbolicExpression (Residue p)) Global) × (slice_get tuples i ≡ Some tuple) × IsWritingListFault tuple.items e
 
-abbrev pub IsOptionFault : Option (Vec (SymbolicExpression BabyBear) Global) → TableFault → Type 0
-IsOptionFault None e = ⊥
-IsOptionFault (Some flags) e = IsListFault flags.items e
+abbrev pub IsWritingFlagsFault : {p : ℕ} → Option (Vec (SymbolicExpression (Residue p)) Global) → TableFault → Type 0
+IsWritingFlagsFault None e = ⊥
+IsWritingFlagsFault (Some flags) e = IsWritingListFault flags.items e
 
 -- why tables can't encode a lookup
-abbrev pub IsLookupFault : Lookup BabyBear → TableFault → Type 0
-IsLookupFault lookup e =
-    IsElementsFault lookup.elements.items e ⊎ (IsListFault lookup.multiplicities.items e ⊎ IsOptionFault lookup.flags e)
+abbrev pub IsWritingLookupFault : {p : ℕ} → Lookup (Residue p) → TableFault → Type 0
+IsWritingLookupFault lookup e =
+    IsWritingTuplesFault lookup.elements.items e ⊎ (IsWritingListFault lookup.multiplicities.items e ⊎ IsWritingFlagsFault lookup.flags e)
 
 -- tables can't encode lookup i, and why, and they can encode all those before it
-pub record IsUnencodableAt (lookups : List (Lookup BabyBear)) (i : ℕ) (e : TableFault) : Type 0 where
-  pub lookup : Lookup BabyBear
+pub record IsFirstUnwritable {p : ℕ} (lookups : List (Lookup (Residue p))) (i : ℕ) (e : TableFault) : Type 0 where
+  pub lookup : Lookup (Residue p)
   pub is_there : slice_get lookups i ≡ Some lookup
-  pub before : (k : ℕ) (other : Lookup BabyBear) → k < i → slice_get lookups k ≡ Some other → IsEncodable other
-  pub fault : IsLookupFault lookup e
+  pub before : (k : ℕ) (other : Lookup (Residue p)) → k < i → slice_get lookups k ≡ Some other → IsWritableLookup other
+  pub fault : IsWritingLookupFault lookup e
 
 -- tables with these nodes, tuples, names and records encode these lookups
-abbrev pub EncodeLists : List Node → List Span → List ℕ → List Record → List (Lookup BabyBear) → Type 0
-EncodeLists nodes tuples names records lookups =
-    (t : Tables) → t.nodes.now ≡ nodes → t.tuples.now ≡ tuples → t.names.now ≡ names → t.records.now ≡ records → AreLookups t lookups
+abbrev pub WrittenListsEncode : {p : ℕ} → List Node → List Span → List ℕ → List Record → List (Lookup (Residue p)) → Type 0
+WrittenListsEncode nodes tuples names records lookups =
+    (t : Tables) → t.nodes.now ≡ nodes → t.tuples.now ≡ tuples → t.names.now ≡ names → t.records.now ≡ records → AreTableLookups t lookups
 
 -- what is written says these lookups
-abbrev pub EncodesWritten : Written → List (Lookup BabyBear) → Type 0
-EncodesWritten w lookups = EncodeLists w.nodes.items w.tuples.items w.names.items w.records.items lookups
+abbrev pub WrittenEncodes : {p : ℕ} → Written → List (Lookup (Residue p)) → Type 0
+WrittenEncodes w lookups = WrittenListsEncode w.nodes.items w.tuples.items w.names.items w.records.items lookups

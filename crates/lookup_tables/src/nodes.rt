@@ -6,9 +6,8 @@ ghost use Rattle.lookup_tables.specs.Nodes.{entry_node, leaf_node, nodes_of};
 ghost use Rattle.lookup_tables.specs.declared.nodes.NodeFault.TheVariants.{Memory};
 ghost use Rattle.lookup_tables.specs.internal.Nodes.{is_leaf, is_negation, is_operation};
 
-use crate::numbers::MODULUS;
 use expressions::{BaseEntry, BaseLeaf, Expression, SymbolicExpression, SymbolicVariable};
-use field::BabyBear;
+use field::{MontyField31, MontyParameters};
 use std::alloc::{AllocError, AllocFailed, Global};
 
 /// A node of an expression: a leaf, or an operation on the one or two expressions before it.
@@ -51,13 +50,13 @@ impl<T: Drop> From<AllocFailed<T>> for NodeFault {
     }
 }
 
-pub(crate) fn is_leaf(node: &Node) -> bool
-    ensures { result ≡ is_leaf node.now }
+pub(crate) fn is_leaf<const P: u32>(node: &Node) -> bool
+    ensures { result ≡ is_leaf P node.now }
 {
     node.kind <= 1
         || node.kind == 2 && node.number == 0
         || node.kind <= 5 && node.kind >= 3 && node.number == 0 && node.index == 0
-        || node.kind == 6 && node.number < MODULUS && node.index == 0
+        || node.kind == 6 && node.number < P && node.index == 0
 }
 
 pub(crate) fn is_negation(node: &Node) -> bool
@@ -73,8 +72,10 @@ pub(crate) fn is_operation(node: &Node) -> bool
 }
 
 /// The leaf that a node is.
-pub(crate) fn leaf_of(node: &Node) -> BaseLeaf<BabyBear>
-    requires { is_leaf node.now ≡ true }
+pub(crate) fn leaf_of<const P: u32, K: MontyParameters<P>>(
+    node: &Node,
+) -> BaseLeaf<MontyField31<P, K>>
+    requires { is_leaf P node.now ≡ true }
     ensures { leaf_node result ≡ node.now }
 {
     let offset = node.number as usize;
@@ -91,23 +92,26 @@ pub(crate) fn leaf_of(node: &Node) -> BaseLeaf<BabyBear>
     } else if node.kind == 5 {
         BaseLeaf::IsTransition
     } else {
-        BaseLeaf::Constant(BabyBear::new(node.number))
+        BaseLeaf::Constant(MontyField31::new(node.number))
     }
 }
 
-fn variable(entry: BaseEntry, index: usize) -> BaseLeaf<BabyBear>
+fn variable<const P: u32, K: MontyParameters<P>>(
+    entry: BaseEntry,
+    index: usize,
+) -> BaseLeaf<MontyField31<P, K>>
     ensures { leaf_node result ≡ entry_node entry index }
 {
     BaseLeaf::Variable(SymbolicVariable::new(entry, index))
 }
 
 /// The operation that a node is, on two expressions.
-pub(crate) fn joined(
+pub(crate) fn joined<const P: u32, K: MontyParameters<P>>(
     alloc: Global,
     node: &Node,
-    left: SymbolicExpression<BabyBear>,
-    right: SymbolicExpression<BabyBear>,
-) -> Result<SymbolicExpression<BabyBear>, AllocError>
+    left: SymbolicExpression<MontyField31<P, K>>,
+    right: SymbolicExpression<MontyField31<P, K>>,
+) -> Result<SymbolicExpression<MontyField31<P, K>>, AllocError>
     requires { is_operation node.now ≡ true }
     ensures nodes { IfOk result (λ r. nodes_of (tree_of r)
         ≡ nodes_of (tree_of left) ++ (nodes_of (tree_of right) ++ node.now ∷ [])) }

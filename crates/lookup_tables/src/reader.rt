@@ -1,7 +1,7 @@
 //! The reader of expressions.
 ghost use Rattle.std.specs.Prelude.{◌≡◌, ◌⊎◌, ◌++◌, ◌∷◌, [], ℕ, true, false, IfOk, MatchResult, map};
 ghost use Rattle.expressions.specs.Tree.{tree_of};
-ghost use Rattle.lookup_tables.specs.Nodes.{AreTrees, IsFirstBadNode};
+ghost use Rattle.lookup_tables.specs.Nodes.{NodesAreTrees, IsFirstBadNode};
 ghost use Rattle.lookup_tables.specs.declared.nodes.NodeFault.TheVariants.{Memory, Bad};
 ghost use Rattle.lookup_tables.specs.internal.Nodes.{is_negation, is_operation};
 ghost use Rattle.lookup_tables.specs.internal.Stack.{has_one, has_room, has_two, part_depths, written};
@@ -9,19 +9,23 @@ ghost use Rattle.lookup_tables.specs.internal.Stack.{has_one, has_room, has_two,
 use crate::nodes::{Node, NodeFault, is_leaf, is_negation, is_operation, joined, leaf_of};
 use crate::part::Part;
 use expressions::{Expression, SymbolicExpression};
-use field::BabyBear;
+use field::{MontyField31, MontyParameters};
 use std::alloc::Global;
 
 /// The deepest expression that is taken.
 pub(crate) const MAX_DEPTH: usize = 1024;
 
 /// Takes one node onto the stack.
-fn push_node(alloc: Global, stack: &mut Vec<Part>, node: &Node) -> Result<(), NodeFault>
+fn push_node<const P: u32, K: MontyParameters<P>>(
+    alloc: Global,
+    stack: &mut Vec<Part<MontyField31<P, K>>>,
+    node: &Node,
+) -> Result<(), NodeFault>
     ensures { MatchResult result
         (λ _. written stack.new.items ≡ written stack.old.items ++ node.now ∷ [])
-        (λ e. (e ≡ Memory) ⊎ (has_room (part_depths stack.old.items) node.now ≡ false)) }
+        (λ e. (e ≡ Memory) ⊎ (has_room P (part_depths stack.old.items) node.now ≡ false)) }
 {
-    if is_leaf(node) {
+    if is_leaf::<P>(node) {
         let expression = SymbolicExpression::Leaf(leaf_of(node));
         stack.push(Part {
             expression,
@@ -37,7 +41,11 @@ fn push_node(alloc: Global, stack: &mut Vec<Part>, node: &Node) -> Result<(), No
     }
 }
 
-fn push_negation(alloc: Global, stack: &mut Vec<Part>, node: &Node) -> Result<(), NodeFault>
+fn push_negation<const P: u32, K: MontyParameters<P>>(
+    alloc: Global,
+    stack: &mut Vec<Part<MontyField31<P, K>>>,
+    node: &Node,
+) -> Result<(), NodeFault>
     requires { is_negation node.now ≡ true }
     ensures { MatchResult result
         (λ _. written stack.new.items ≡ written stack.old.items ++ node.now ∷ [])
@@ -59,7 +67,11 @@ fn push_negation(alloc: Global, stack: &mut Vec<Part>, node: &Node) -> Result<()
     }
 }
 
-fn push_operation(alloc: Global, stack: &mut Vec<Part>, node: &Node) -> Result<(), NodeFault>
+fn push_operation<const P: u32, K: MontyParameters<P>>(
+    alloc: Global,
+    stack: &mut Vec<Part<MontyField31<P, K>>>,
+    node: &Node,
+) -> Result<(), NodeFault>
     requires { is_operation node.now ≡ true }
     ensures { MatchResult result
         (λ _. written stack.new.items ≡ written stack.old.items ++ node.now ∷ [])
@@ -85,14 +97,14 @@ fn push_operation(alloc: Global, stack: &mut Vec<Part>, node: &Node) -> Result<(
 /// Refuses the first node that continues no list of expressions: one of an unknown kind or with
 /// numbers that its kind does not have, an operation without operands, or one deeper than 1024.
 /// Also fails when out of memory.
-pub fn read_expressions(
+pub fn read_expressions<const P: u32, K: MontyParameters<P>>(
     alloc: Global,
     nodes: &[Node],
-) -> Result<Vec<SymbolicExpression<BabyBear>>, NodeFault>
+) -> Result<Vec<SymbolicExpression<MontyField31<P, K>>>, NodeFault>
     ensures reads { MatchResult result
-        (λ v. AreTrees (map tree_of v.items) nodes.now)
-        (λ e. (e ≡ Memory) ⊎ (i : ℕ) × (e ≡ Bad i) × IsFirstBadNode nodes.now i) }
-    ensures only { IfOk result (λ v. (trees : _) → AreTrees trees nodes.now
+        (λ v. NodesAreTrees (map tree_of v.items) nodes.now)
+        (λ e. (e ≡ Memory) ⊎ (i : ℕ) × (e ≡ Bad i) × IsFirstBadNode P nodes.now i) }
+    ensures only { IfOk result (λ v. (trees : _) → NodesAreTrees trees nodes.now
         → trees ≡ map tree_of v.items) }
 {
     let parts = read_parts(alloc, nodes)?;
@@ -103,10 +115,13 @@ pub fn read_expressions(
     Ok(expressions)
 }
 
-fn read_parts(alloc: Global, nodes: &[Node]) -> Result<Vec<Part>, NodeFault>
+fn read_parts<const P: u32, K: MontyParameters<P>>(
+    alloc: Global,
+    nodes: &[Node],
+) -> Result<Vec<Part<MontyField31<P, K>>>, NodeFault>
     ensures { MatchResult result
         (λ v. written v.items ≡ nodes.now)
-        (λ e. (e ≡ Memory) ⊎ (i : ℕ) × (e ≡ Bad i) × IsFirstBadNode nodes.now i) }
+        (λ e. (e ≡ Memory) ⊎ (i : ℕ) × (e ≡ Bad i) × IsFirstBadNode P nodes.now i) }
 {
     let mut stack = Vec::new(alloc);
     for (index, node) in nodes.iter().enumerate() {

@@ -2,13 +2,13 @@
 ghost use Rattle.std.specs.Prelude.{◌≡◌, ◌⊎◌, ℕ, MatchResult};
 ghost use Rattle.std.specs.Option.{option_map};
 ghost use Rattle.lookup_model.specs.Outline.{bus_of};
-ghost use Rattle.lookup_tables.specs.Tables.{AreFlags, AreLookups, AreTuples, IsBus, IsBusFault, IsFirstBadRecord, IsFirstBadTuple, IsFlagsFault, IsLookup, IsRecordFault, IsSpanFault, IsWritten, NothingIs, EncodeLookups};
+ghost use Rattle.lookup_tables.specs.Tables.{AreTableFlags, AreTableLookups, AreTableTuples, IsTableBus, IsTableBusFault, IsFirstBadTableRecord, IsFirstBadTableTuple, IsTableFlagsFault, IsTableLookup, IsTableRecordFault, IsTableSpanFault, AreTableExpressions, NothingInTable, TablesEncode};
 ghost use Rattle.lookup_tables.specs.declared.tables.TableFault.TheVariants.{Memory};
 
 use crate::nodes::{Node, NodeFault};
 use crate::reader::read_expressions;
 use expressions::SymbolicExpression;
-use field::BabyBear;
+use field::{MontyField31, MontyParameters};
 use lookup_model::{Kind, Lookup};
 use std::alloc::{AllocError, AllocFailed, Global};
 use thiserror::Error;
@@ -113,14 +113,15 @@ impl<T: Drop> From<AllocFailed<T>> for TableFault {
 /// The expressions of a range of nodes.
 ///
 /// Refuses a range that is not within the table, then a long one, then the first bad node.
-fn expressions_at(
+fn expressions_at<const P: u32, K: MontyParameters<P>>(
     alloc: Global,
     nodes: &[Node],
     span: Span,
-) -> Result<Vec<SymbolicExpression<BabyBear>>, TableFault>
-    ensures { MatchResult result (λ v. IsWritten nodes.now span v.items)
+) -> Result<Vec<SymbolicExpression<MontyField31<P, K>>>, TableFault>
+    ensures { MatchResult result (λ v. AreTableExpressions nodes.now span v.items)
         (λ e. (e ≡ Memory)
-        ⊎ (NothingIs (IsWritten nodes.now span) × IsSpanFault nodes.now span e)) }
+        ⊎ (NothingInTable (AreTableExpressions {p = P} nodes.now span)
+        × IsTableSpanFault P nodes.now span e)) }
 {
     if span.start > span.end || span.end > nodes.len() {
         return Err(TableFault::Range);
@@ -138,15 +139,15 @@ fn expressions_at(
 /// The tuples of these spans.
 ///
 /// Refuses the first span that no tuple stands in.
-fn tuples_at(
+fn tuples_at<const P: u32, K: MontyParameters<P>>(
     alloc: Global,
     nodes: &[Node],
     spans: &[Span],
-) -> Result<Vec<Vec<SymbolicExpression<BabyBear>>>, TableFault>
-    ensures { MatchResult result (λ v. AreTuples nodes.now spans.now v.items)
+) -> Result<Vec<Vec<SymbolicExpression<MontyField31<P, K>>>>, TableFault>
+    ensures { MatchResult result (λ v. AreTableTuples nodes.now spans.now v.items)
         (λ e. (e ≡ Memory)
-        ⊎ (NothingIs (AreTuples nodes.now spans.now)
-        × (i : ℕ) × IsFirstBadTuple nodes.now spans.now i e)) }
+        ⊎ (NothingInTable (AreTableTuples {p = P} nodes.now spans.now)
+        × (i : ℕ) × IsFirstBadTableTuple P nodes.now spans.now i e)) }
 {
     let mut tuples = Vec::new(alloc);
     for span in spans {
@@ -157,10 +158,10 @@ fn tuples_at(
 
 /// The bus of a record.
 fn bus_at(alloc: Global, names: &[u8], record: &Record) -> Result<Kind, TableFault>
-    ensures { MatchResult result (λ kind. IsBus names.now «record».now (bus_of kind))
+    ensures { MatchResult result (λ kind. IsTableBus names.now «record».now (bus_of kind))
         (λ e. (e ≡ Memory)
-        ⊎ (NothingIs (λ kind. IsBus names.now «record».now (bus_of kind))
-        × IsBusFault names.now «record».now e)) }
+        ⊎ (NothingInTable (λ kind. IsTableBus names.now «record».now (bus_of kind))
+        × IsTableBusFault names.now «record».now e)) }
 {
     if record.kind == 0 {
         return Ok(Kind::Local);
@@ -179,16 +180,16 @@ fn bus_at(alloc: Global, names: &[u8], record: &Record) -> Result<Kind, TableFau
 }
 
 /// The flags of a record.
-fn flags_at(
+fn flags_at<const P: u32, K: MontyParameters<P>>(
     alloc: Global,
     nodes: &[Node],
     record: &Record,
-) -> Result<Option<Vec<SymbolicExpression<BabyBear>>>, TableFault>
+) -> Result<Option<Vec<SymbolicExpression<MontyField31<P, K>>>>, TableFault>
     ensures { MatchResult result
-        (λ flags. AreFlags nodes.now «record».now (option_map (λ v. v.items) flags))
+        (λ flags. AreTableFlags nodes.now «record».now (option_map (λ v. v.items) flags))
         (λ e. (e ≡ Memory)
-        ⊎ (NothingIs (AreFlags nodes.now «record».now)
-        × IsFlagsFault nodes.now «record».now e)) }
+        ⊎ (NothingInTable (AreTableFlags {p = P} nodes.now «record».now)
+        × IsTableFlagsFault P nodes.now «record».now e)) }
 {
     match record.exclusive {
         0 => Ok(None),
@@ -201,17 +202,17 @@ fn flags_at(
 ///
 /// Refuses a record without a bus, then one without tuples, then one without multiplicities, then one
 /// without flags.
-fn lookup_at(
+fn lookup_at<const P: u32, K: MontyParameters<P>>(
     alloc: Global,
     tables: &Tables<'_>,
     record: &Record,
     column: usize,
-) -> Result<Lookup<BabyBear>, TableFault>
+) -> Result<Lookup<MontyField31<P, K>>, TableFault>
     ensures { MatchResult result
-        (λ lookup. IsLookup tables.now «record».now lookup × (lookup.column ≡ column))
+        (λ lookup. IsTableLookup tables.now «record».now lookup × (lookup.column ≡ column))
         (λ e. (e ≡ Memory)
-        ⊎ (NothingIs (IsLookup tables.now «record».now)
-        × IsRecordFault tables.now «record».now e)) }
+        ⊎ (NothingInTable (IsTableLookup {p = P} tables.now «record».now)
+        × IsTableRecordFault P tables.now «record».now e)) }
 {
     let kind = bus_at(alloc, tables.names, record)?;
     let spans = record.tuples;
@@ -232,12 +233,12 @@ fn lookup_at(
 }
 
 /// The lookups of all records, each in the column of its record's index.
-fn lookups_at(
+fn lookups_at<const P: u32, K: MontyParameters<P>>(
     alloc: Global,
     tables: &Tables<'_>,
-) -> Result<Vec<Lookup<BabyBear>>, (usize, TableFault)>
-    ensures { MatchResult result (λ v. AreLookups tables.now v.items)
-        (λ e. (e.1 ≡ Memory) ⊎ IsFirstBadRecord tables.now e.0 e.1) }
+) -> Result<Vec<Lookup<MontyField31<P, K>>>, (usize, TableFault)>
+    ensures { MatchResult result (λ v. AreTableLookups tables.now v.items)
+        (λ e. (e.1 ≡ Memory) ⊎ IsFirstBadTableRecord P tables.now e.0 e.1) }
 {
     let mut lookups = Vec::new(alloc);
     for (index, record) in tables.records.iter().enumerate() {
@@ -258,12 +259,12 @@ fn lookups_at(
 ///
 /// Refuses the first record that is not a lookup, with its index and the fault of its first bad
 /// part: bus, tuples, multiplicities, flags. Also fails when out of memory.
-pub fn read_lookups(
+pub fn read_lookups<const P: u32, K: MontyParameters<P>>(
     alloc: Global,
     tables: &Tables<'_>,
-) -> Result<Vec<Lookup<BabyBear>>, (usize, TableFault)>
-    ensures { MatchResult result (λ v. EncodeLookups tables.now v.items)
-        (λ e. (e.1 ≡ Memory) ⊎ IsFirstBadRecord tables.now e.0 e.1) }
+) -> Result<Vec<Lookup<MontyField31<P, K>>>, (usize, TableFault)>
+    ensures { MatchResult result (λ v. TablesEncode tables.now v.items)
+        (λ e. (e.1 ≡ Memory) ⊎ IsFirstBadTableRecord P tables.now e.0 e.1) }
 {
     lookups_at(alloc, tables)
 }

@@ -1,11 +1,11 @@
 //! Traces as tables of numbers.
 ghost use Rattle.std.specs.Prelude.{◌≡◌, ◌⊎◌, MatchResult, length};
 ghost use Rattle.lookup_tables.specs.Numbers.{AreNumbersBelow};
-ghost use Rattle.lookup_tables.specs.Traces.{AreRows, AreTracesOf, IsLargeFault, IsPartFault, IsTraceFault, elements_of, makes_rows, preprocessed_of, trace_of};
+ghost use Rattle.lookup_tables.specs.TraceNumbers.{AreTraceNumbers, AreTracesOfNumbers, IsLargeNumberFault, IsTracePartFault, IsTraceFault, elements_of_numbers, makes_rows, preprocessed_of_numbers, trace_of_numbers};
 ghost use Rattle.lookup_tables.specs.declared.traces.TraceFault.TheVariants.{Memory};
 
 use crate::numbers::{NumberFault, elements};
-use field::BabyBear;
+use field::{MontyField31, MontyParameters};
 use matrix::RowMajorMatrix;
 use std::alloc::{AllocError, AllocFailed, Global};
 use std::fmt;
@@ -29,13 +29,13 @@ pub struct Traces<'a> {
 
 /// The traces and the public values of one AIR, as they are read.
 #[derive(Drop)]
-pub struct ReadTraces {
+pub struct ReadTraces<F> {
     /// The main trace.
-    pub main: RowMajorMatrix<BabyBear>,
+    pub main: RowMajorMatrix<F>,
     /// The preprocessed trace, if there is one.
-    pub preprocessed: Option<RowMajorMatrix<BabyBear>>,
+    pub preprocessed: Option<RowMajorMatrix<F>>,
     /// The public values.
-    pub public_values: Vec<BabyBear>,
+    pub public_values: Vec<F>,
 }
 
 /// A part of the traces of an AIR.
@@ -88,15 +88,15 @@ impl<T: Drop> From<AllocFailed<T>> for TraceFault {
 }
 
 /// The elements of a part.
-fn part_elements(
+fn part_elements<const P: u32, K: MontyParameters<P>>(
     alloc: Global,
     part: TracePart,
     numbers: &[u32],
-) -> Result<Vec<BabyBear>, TraceFault>
+) -> Result<Vec<MontyField31<P, K>>, TraceFault>
     ensures { MatchResult result
-        (λ v. (v.items ≡ elements_of numbers.now)
-        × AreNumbersBelow (length numbers.now) numbers.now)
-        (λ e. (e ≡ Memory) ⊎ IsLargeFault part numbers.now e) }
+        (λ v. (v.items ≡ elements_of_numbers K.positive numbers.now)
+        × AreNumbersBelow P (length numbers.now) numbers.now)
+        (λ e. (e ≡ Memory) ⊎ IsLargeNumberFault P part numbers.now e) }
 {
     match elements(alloc, numbers) {
         Ok(values) => Ok(values),
@@ -117,15 +117,16 @@ pub fn makes_rows(count: usize, width: usize) -> bool
 }
 
 /// The trace of these numbers, row after row.
-fn trace(
+fn trace<const P: u32, K: MontyParameters<P>>(
     alloc: Global,
     part: TracePart,
     numbers: &[u32],
     width: usize,
-) -> Result<RowMajorMatrix<BabyBear>, TraceFault>
+) -> Result<RowMajorMatrix<MontyField31<P, K>>, TraceFault>
     ensures { MatchResult result
-        (λ m. (m ≡ trace_of numbers.now width) × AreRows numbers.now width)
-        (IsPartFault part numbers.now width) }
+        (λ m. (m ≡ trace_of_numbers K.positive numbers.now width)
+        × AreTraceNumbers P numbers.now width)
+        (IsTracePartFault P part numbers.now width) }
 {
     if !makes_rows(numbers.len(), width) {
         return Err(TraceFault::Ragged { part });
@@ -135,14 +136,15 @@ fn trace(
 }
 
 /// The preprocessed trace, if there is one.
-fn preprocessed_trace(
+fn preprocessed_trace<const P: u32, K: MontyParameters<P>>(
     alloc: Global,
     numbers: &[u32],
     width: usize,
-) -> Result<Option<RowMajorMatrix<BabyBear>>, TraceFault>
+) -> Result<Option<RowMajorMatrix<MontyField31<P, K>>>, TraceFault>
     ensures { MatchResult result
-        (λ m. (m ≡ preprocessed_of numbers.now width) × AreRows numbers.now width)
-        (IsPartFault TracePart.Preprocessed numbers.now width) }
+        (λ m. (m ≡ preprocessed_of_numbers K.positive numbers.now width)
+        × AreTraceNumbers P numbers.now width)
+        (IsTracePartFault P TracePart.Preprocessed numbers.now width) }
 {
     let trace = trace(alloc, TracePart::Preprocessed, numbers, width)?;
     if width == 0 {
@@ -156,8 +158,12 @@ fn preprocessed_trace(
 /// Refuses the first part with a fault, of the main trace, the preprocessed trace and the public
 /// values: a trace that does not make whole rows, or else its first number that is not below the
 /// modulus. Also fails when out of memory.
-pub fn read_traces(alloc: Global, traces: &Traces<'_>) -> Result<ReadTraces, TraceFault>
-    ensures { MatchResult result (AreTracesOf traces.now) (IsTraceFault traces.now) }
+pub fn read_traces<const P: u32, K: MontyParameters<P>>(
+    alloc: Global,
+    traces: &Traces<'_>,
+) -> Result<ReadTraces<MontyField31<P, K>>, TraceFault>
+    ensures { MatchResult result (AreTracesOfNumbers K.positive traces.now)
+        (IsTraceFault P traces.now) }
 {
     let main = trace(alloc, TracePart::Main, traces.main, traces.main_width)?;
     let width = traces.preprocessed_width;

@@ -4,8 +4,8 @@ ghost use Rattle.std.specs.List.{range_with_len};
 ghost use Rattle.expressions.specs.Tree.{tree_of};
 ghost use Rattle.lookup_model.specs.Outline.{bus_of};
 ghost use Rattle.lookup_tables.specs.Nodes.{entry_node, leaf_node, node, nodes_of};
-ghost use Rattle.lookup_tables.specs.Tables.{AreTuples, IsInside, IsWritten, items_at};
-ghost use Rattle.lookup_tables.specs.Written.{AreSayable, AreSayableFlags, IsElementsFault, IsListFault, IsLookupFault, IsNearEntry, IsNearLeaf, IsOptionFault, IsEncodable, IsEncodableWithin, IsTreeFault, IsUnencodableAt, EncodesWritten};
+ghost use Rattle.lookup_tables.specs.Tables.{AreTableTuples, IsTableRange, AreTableExpressions, table_items};
+ghost use Rattle.lookup_tables.specs.Written.{AreWritableExpressions, AreWritableFlags, IsWritingTuplesFault, IsWritingListFault, IsWritingLookupFault, IsWritableEntry, IsWritableLeaf, IsWritingFlagsFault, IsWritableLookup, IsWritableWithin, IsWritingTreeFault, IsFirstUnwritable, WrittenEncodes};
 ghost use Rattle.lookup_tables.specs.declared.tables.TableFault.TheVariants.{Memory};
 ghost use Rattle.lookup_tables.specs.internal.Written.{HoldsFrom, IsLonger, EncodesBus, EncodesFlags, EncodesRecord};
 
@@ -13,7 +13,7 @@ use crate::nodes::Node;
 use crate::reader::MAX_DEPTH;
 use crate::tables::{MAX_NODES, Record, Span, TableFault};
 use expressions::{BaseEntry, BaseLeaf, SymbolicExpression};
-use field::BabyBear;
+use field::{MontyField31, MontyParameters};
 use lookup_model::{Kind, Lookup};
 use std::alloc::{AllocError, Global};
 
@@ -64,8 +64,8 @@ fn node(kind: u32, number: u32, index: usize) -> Node
 ///
 /// Refuses one of a row whose number does not fit 32 bits.
 fn variable_node(entry: BaseEntry, index: usize) -> Result<Node, TableFault>
-    ensures { MatchResult result (λ n. (n ≡ entry_node entry index) × IsNearEntry entry)
-        (λ e. (e ≡ TableFault.RowTooLarge) × (¬ IsNearEntry entry)) }
+    ensures { MatchResult result (λ n. (n ≡ entry_node entry index) × IsWritableEntry entry)
+        (λ e. (e ≡ TableFault.RowTooLarge) × (¬ IsWritableEntry entry)) }
 {
     match entry {
         BaseEntry::Main { offset } => row_node(0, offset, index),
@@ -89,9 +89,11 @@ fn row_node(kind: u32, row: usize, index: usize) -> Result<Node, TableFault>
 /// The node of a leaf.
 ///
 /// Refuses a cell of a row whose number does not fit 32 bits.
-fn node_of(leaf: &BaseLeaf<BabyBear>) -> Result<Node, TableFault>
-    ensures { MatchResult result (λ n. (n ≡ leaf_node leaf.now) × IsNearLeaf leaf.now)
-        (λ e. (e ≡ TableFault.RowTooLarge) × (¬ IsNearLeaf leaf.now)) }
+fn node_of<const P: u32, K: MontyParameters<P>>(
+    leaf: &BaseLeaf<MontyField31<P, K>>,
+) -> Result<Node, TableFault>
+    ensures { MatchResult result (λ n. (n ≡ leaf_node leaf.now) × IsWritableLeaf leaf.now)
+        (λ e. (e ≡ TableFault.RowTooLarge) × (¬ IsWritableLeaf leaf.now)) }
 {
     match leaf {
         BaseLeaf::Variable(variable) => variable_node(variable.entry, variable.index),
@@ -104,11 +106,14 @@ fn node_of(leaf: &BaseLeaf<BabyBear>) -> Result<Node, TableFault>
 
 /// Appends the node of a leaf. By itself, so that `push_nodes` takes less stack.
 #[inline(never)]
-fn push_leaf(nodes: &mut Vec<Node>, leaf: &BaseLeaf<BabyBear>) -> Result<(), TableFault>
+fn push_leaf<const P: u32, K: MontyParameters<P>>(
+    nodes: &mut Vec<Node>,
+    leaf: &BaseLeaf<MontyField31<P, K>>,
+) -> Result<(), TableFault>
     ensures { MatchResult result
         (λ _. (nodes.new.items ≡ nodes.old.items ++ leaf_node leaf.now ∷ [])
-        × IsNearLeaf leaf.now)
-        (λ e. (e ≡ Memory) ⊎ ((e ≡ TableFault.RowTooLarge) × (¬ IsNearLeaf leaf.now))) }
+        × IsWritableLeaf leaf.now)
+        (λ e. (e ≡ Memory) ⊎ ((e ≡ TableFault.RowTooLarge) × (¬ IsWritableLeaf leaf.now))) }
 {
     nodes.push(node_of(leaf)?)?;
     Ok(())
@@ -125,15 +130,15 @@ fn push_operation(nodes: &mut Vec<Node>, kind: u32) -> Result<(), TableFault>
 }
 
 /// Appends the nodes of an expression that is at most so deep.
-fn push_nodes(
+fn push_nodes<const P: u32, K: MontyParameters<P>>(
     nodes: &mut Vec<Node>,
-    expression: &SymbolicExpression<BabyBear>,
+    expression: &SymbolicExpression<MontyField31<P, K>>,
     depth: usize,
 ) -> Result<(), TableFault>
     ensures { MatchResult result
         (λ _. (nodes.new.items ≡ nodes.old.items ++ nodes_of (tree_of expression.now))
-        × IsEncodableWithin depth (tree_of expression.now))
-        (λ e. (e ≡ Memory) ⊎ IsTreeFault depth (tree_of expression.now) e) }
+        × IsWritableWithin depth (tree_of expression.now))
+        (λ e. (e ≡ Memory) ⊎ IsWritingTreeFault depth (tree_of expression.now) e) }
 {
     if depth == 0 {
         return Err(TableFault::TooDeep);
@@ -165,15 +170,15 @@ fn push_nodes(
 /// Appends the nodes of a list of expressions, and answers their range.
 ///
 /// Refuses the first expression that no nodes encode, and then a list of too many nodes.
-fn write_list(
+fn write_list<const P: u32, K: MontyParameters<P>>(
     nodes: &mut Vec<Node>,
-    expressions: &[SymbolicExpression<BabyBear>],
+    expressions: &[SymbolicExpression<MontyField31<P, K>>],
 ) -> Result<Span, TableFault>
     ensures { MatchResult result
         (λ span. IsLonger nodes.old.items nodes.new.items
-        × HoldsFrom nodes.new.items (λ all. IsWritten all span expressions.now)
-        × AreSayable expressions.now)
-        (λ e. (e ≡ Memory) ⊎ IsListFault expressions.now e) }
+        × HoldsFrom nodes.new.items (λ all. AreTableExpressions all span expressions.now)
+        × AreWritableExpressions expressions.now)
+        (λ e. (e ≡ Memory) ⊎ IsWritingListFault expressions.now e) }
 {
     let start = nodes.len();
     for expression in expressions {
@@ -187,18 +192,18 @@ fn write_list(
 }
 
 /// Appends the nodes of tuples and the range of each, and answers where these stand.
-fn write_tuples(
+fn write_tuples<const P: u32, K: MontyParameters<P>>(
     nodes: &mut Vec<Node>,
     spans: &mut Vec<Span>,
-    tuples: &[Vec<SymbolicExpression<BabyBear>>],
+    tuples: &[Vec<SymbolicExpression<MontyField31<P, K>>>],
 ) -> Result<Span, TableFault>
     ensures { MatchResult result
         (λ span. IsLonger nodes.old.items nodes.new.items
         × IsLonger spans.old.items spans.new.items
-        × HoldsFrom spans.new.items (λ all. IsInside all span
-        × HoldsFrom nodes.new.items (λ ns. AreTuples ns (items_at all span) tuples.now))
-        × All (λ tuple. AreSayable tuple.items) tuples.now)
-        (λ e. (e ≡ Memory) ⊎ IsElementsFault tuples.now e) }
+        × HoldsFrom spans.new.items (λ all. IsTableRange all span
+        × HoldsFrom nodes.new.items (λ ns. AreTableTuples ns (table_items all span) tuples.now))
+        × All (λ tuple. AreWritableExpressions tuple.items) tuples.now)
+        (λ e. (e ≡ Memory) ⊎ IsWritingTuplesFault tuples.now e) }
 {
     let start = spans.len();
     for tuple in tuples {
@@ -214,7 +219,8 @@ fn write_tuples(
 /// Appends a name, and answers where it stands.
 fn write_name(names: &mut Vec<u8>, name: &str) -> Result<Span, AllocError>
     ensures { IfOk result (λ span. IsLonger names.old.items names.new.items
-        × HoldsFrom names.new.items (λ all. IsInside all span × (items_at all span ≡ name.now))) }
+        × HoldsFrom names.new.items
+        (λ all. IsTableRange all span × (table_items all span ≡ name.now))) }
 {
     let start = names.len();
     for byte in name.as_bytes() {
@@ -241,15 +247,15 @@ fn write_bus(names: &mut Vec<u8>, kind: &Kind) -> Result<Marked, AllocError>
 }
 
 /// Appends the nodes of a lookup's flags, if it has them.
-fn write_flags(
+fn write_flags<const P: u32, K: MontyParameters<P>>(
     nodes: &mut Vec<Node>,
-    flags: &Option<Vec<SymbolicExpression<BabyBear>>>,
+    flags: &Option<Vec<SymbolicExpression<MontyField31<P, K>>>>,
 ) -> Result<Marked, TableFault>
     ensures { MatchResult result
         (λ made. IsLonger nodes.old.items nodes.new.items
         × HoldsFrom nodes.new.items (λ all. EncodesFlags all made.mark made.span flags.now)
-        × AreSayableFlags flags.now)
-        (λ e. (e ≡ Memory) ⊎ IsOptionFault flags.now e) }
+        × AreWritableFlags flags.now)
+        (λ e. (e ≡ Memory) ⊎ IsWritingFlagsFault flags.now e) }
 {
     match flags {
         None => Ok(unmarked()),
@@ -261,18 +267,18 @@ fn write_flags(
 }
 
 /// Appends the parts of a lookup, and answers its record.
-fn write_lookup(
+fn write_lookup<const P: u32, K: MontyParameters<P>>(
     nodes: &mut Vec<Node>,
     spans: &mut Vec<Span>,
     names: &mut Vec<u8>,
-    lookup: &Lookup<BabyBear>,
+    lookup: &Lookup<MontyField31<P, K>>,
 ) -> Result<Record, TableFault>
     ensures { MatchResult result
         (λ made. IsLonger nodes.old.items nodes.new.items
         × IsLonger spans.old.items spans.new.items × IsLonger names.old.items names.new.items
         × EncodesRecord nodes.new.items spans.new.items names.new.items made lookup.now
-        × IsEncodable lookup.now)
-        (λ e. (e ≡ Memory) ⊎ IsLookupFault lookup.now e) }
+        × IsWritableLookup lookup.now)
+        (λ e. (e ≡ Memory) ⊎ IsWritingLookupFault lookup.now e) }
 {
     let bus = write_bus(names, &lookup.kind)?;
     let tuples = write_tuples(nodes, spans, &lookup.elements)?;
@@ -294,14 +300,14 @@ fn write_lookup(
 /// Refuses the first lookup that can't be encoded, with its index: one with an expression more than
 /// 1024 deep, a cell of a row whose number does not fit 32 bits, or a list of more than 1,048,576
 /// nodes. Also fails when out of memory.
-pub fn write_lookups(
+pub fn write_lookups<const P: u32, K: MontyParameters<P>>(
     alloc: Global,
-    lookups: &[Lookup<BabyBear>],
+    lookups: &[Lookup<MontyField31<P, K>>],
 ) -> Result<Written, (usize, TableFault)>
     requires { map (λ lookup. lookup.column) lookups.now
         ≡ range_with_len 0 (length lookups.now) }
-    ensures { MatchResult result (λ tables. EncodesWritten tables lookups.now)
-        (λ e. (e.1 ≡ Memory) ⊎ IsUnencodableAt lookups.now e.0 e.1) }
+    ensures { MatchResult result (λ tables. WrittenEncodes tables lookups.now)
+        (λ e. (e.1 ≡ Memory) ⊎ IsFirstUnwritable lookups.now e.0 e.1) }
 {
     let mut nodes = Vec::new(alloc);
     let mut tuples = Vec::new(alloc);

@@ -2,12 +2,12 @@
 ghost use Rattle.std.specs.Prelude.{◌≡◌};
 
 use expressions::{BaseEntry, BaseLeaf, Expression, SymbolicExpression, SymbolicVariable};
-use field::{BabyBear, BabyBear4};
+use field::{BabyBear, BabyBear4, KoalaBear, KoalaBear4};
 use lookup_model::{Kind, Lookup};
 use lookup_tables::{
-    Node, NodeFault, NumberFault, Record, Span, TableFault, Tables, TraceFault, TracePart, Traces,
-    element_numbers, elements, extension, extensions, makes_rows, read_expressions, read_lookups,
-    read_traces, write_lookups,
+    Node, NodeFault, NumberFault, ReadTraces, Record, Span, TableFault, Tables, TraceFault,
+    TracePart, Traces, element_numbers, elements, extension, extensions, makes_rows,
+    read_expressions, read_lookups, read_traces, write_lookups,
 };
 use matrix::RowMajorMatrix;
 use std::alloc::Global;
@@ -103,7 +103,10 @@ fn reads_a_difference(rt: HostRuntime) {
 #[test]
 fn refuses_the_first_bad_node(rt: HostRuntime) {
     let nodes = [node(0, 0, 0), node(7, 0, 0), node(11, 0, 0)];
-    let read = read_expressions(rt.alloc(), &nodes);
+    let read: Result<Vec<SymbolicExpression<BabyBear>>, NodeFault> = read_expressions(
+        rt.alloc(),
+        &nodes,
+    );
     let is_second = matches!(&read, Err(NodeFault::Bad(1)));
     holds(&rt, "a sum of one", is_second);
 }
@@ -120,7 +123,7 @@ fn reads_a_record(rt: HostRuntime) {
         names: b"a bus",
         records: &records,
     };
-    let lookups = read_lookups(rt.alloc(), &tables).expect(&rt, "a lookup");
+    let lookups: Vec<Lookup<BabyBear>> = read_lookups(rt.alloc(), &tables).expect(&rt, "a lookup");
     let [lookup] = lookups.as_slice() else {
         holds(&rt, "one lookup", false);
         return;
@@ -166,7 +169,8 @@ fn fault_of(
         names,
         records: &records,
     };
-    match read_lookups(alloc, &tables) {
+    let read: Result<Vec<Lookup<BabyBear>>, (usize, TableFault)> = read_lookups(alloc, &tables);
+    match read {
         Err((0, fault)) => Some(fault),
         _ => None,
     }
@@ -248,7 +252,8 @@ fn trace_fault(
         preprocessed_width: 2,
         public_values,
     };
-    read_traces(alloc, &traces).err()
+    let read: Result<ReadTraces<BabyBear>, TraceFault> = read_traces(alloc, &traces);
+    read.err()
 }
 
 /// Whether a fault is of this part: a number at this index, or else ragged rows.
@@ -296,22 +301,70 @@ fn the_first_fault_of_traces(rt: HostRuntime) {
 
 #[test]
 fn reads_elements(rt: HostRuntime) {
-    let read = elements(rt.alloc(), &[1, 2, 2_013_265_921]);
+    let read: Result<Vec<BabyBear>, NumberFault> = elements(rt.alloc(), &[1, 2, 2_013_265_921]);
     let is_third = matches!(&read, Err(NumberFault::Large(2)));
     holds(&rt, "the modulus", is_third);
-    let list = extensions(rt.alloc(), &[[1, 2, 3, 4]]).expect(&rt, "four numbers");
+    let list: Vec<BabyBear4> = extensions(rt.alloc(), &[[1, 2, 3, 4]]).expect(&rt, "four numbers");
     let [x] = list.as_slice() else {
         holds(&rt, "one element", false);
         return;
     };
     holds(&rt, "its numbers", element_numbers(*x) == [1, 2, 3, 4]);
-    holds(
-        &rt,
-        "no element",
-        extension([0, 0, 2_013_265_921, 0]).is_none(),
-    );
+    let none: Option<BabyBear4> = extension([0, 0, 2_013_265_921, 0]);
+    holds(&rt, "no element", none.is_none());
     let zero = BabyBear4::new([BabyBear::new(0); 4]);
     holds(&rt, "zero", extension([0, 0, 0, 0]) == Some(zero));
+}
+
+/// Over another field the modulus is another one, and so are the products.
+#[test]
+fn reads_over_koala_bear(rt: HostRuntime) {
+    let alloc = rt.alloc();
+    let numbers = [2_013_265_921, 2_130_706_432];
+    let list: Vec<KoalaBear> = elements(alloc, &numbers).expect(&rt, "numbers");
+    let [first, _] = list.as_slice() else {
+        holds(&rt, "two elements", false);
+        return;
+    };
+    let number = first.as_canonical_u32();
+    holds(&rt, "its number", number == 2_013_265_921);
+    let read: Result<Vec<KoalaBear>, NumberFault> = elements(alloc, &[0, 2_130_706_433]);
+    let is_second = matches!(&read, Err(NumberFault::Large(1)));
+    holds(&rt, "the modulus", is_second);
+    let none: Option<KoalaBear4> = extension([0, 0, 0, 2_130_706_433]);
+    holds(&rt, "no element", none.is_none());
+    let powers = [[0, 1, 0, 0], [0, 0, 0, 1]];
+    let list: Vec<KoalaBear4> = extensions(alloc, &powers).expect(&rt, "two powers");
+    let [first, third] = list.as_slice() else {
+        holds(&rt, "two elements", false);
+        return;
+    };
+    // X * X^3 is 3, where over BabyBear it is 11.
+    let product = element_numbers(*first * *third);
+    holds(&rt, "the product", product == [3, 0, 0, 0]);
+}
+
+/// A constant of a node is below the modulus of the field that it is read over.
+#[test]
+fn reads_constants_of_two_fields(rt: HostRuntime) {
+    let nodes = [node(6, 2_013_265_921, 0)];
+    let read: Result<Vec<SymbolicExpression<BabyBear>>, NodeFault> = read_expressions(
+        rt.alloc(),
+        &nodes,
+    );
+    let is_first = matches!(&read, Err(NodeFault::Bad(0)));
+    holds(&rt, "no number over BabyBear", is_first);
+    let read: Result<Vec<SymbolicExpression<KoalaBear>>, NodeFault> = read_expressions(
+        rt.alloc(),
+        &nodes,
+    );
+    let list = read.expect(&rt, "a constant");
+    let [SymbolicExpression::Leaf(BaseLeaf::Constant(c))] = list.as_slice() else {
+        holds(&rt, "one constant", false);
+        return;
+    };
+    let number = c.as_canonical_u32();
+    holds(&rt, "its number", number == 2_013_265_921);
 }
 
 /// Fails unless the element at this index has these numbers.
@@ -330,7 +383,7 @@ fn expect_element(rt: &impl Abort, list: &[BabyBear4], index: usize, numbers: [u
 #[test]
 fn reads_groups(rt: HostRuntime) {
     let groups = [[1, 2, 3, 4], [5, 6, 7, 8], [2_013_265_920, 0, 9, 10]];
-    let list = extensions(rt.alloc(), &groups).expect(&rt, "three groups");
+    let list: Vec<BabyBear4> = extensions(rt.alloc(), &groups).expect(&rt, "three groups");
     let [x, y, z] = list.as_slice() else {
         holds(&rt, "three elements", false);
         return;
@@ -350,7 +403,7 @@ fn reads_groups(rt: HostRuntime) {
         [5, 6, 7, 2_013_265_921],
         [2_013_265_921, 0, 0, 0],
     ];
-    let read = extensions(rt.alloc(), &large);
+    let read: Result<Vec<BabyBear4>, NumberFault> = extensions(rt.alloc(), &large);
     let is_second = matches!(&read, Err(NumberFault::Large(1)));
     holds(&rt, "the modulus in a group", is_second);
 }
@@ -369,7 +422,7 @@ fn reads_many_groups(rt: HostRuntime) {
     expect_element(&rt, &list, 128, [1, 2, 3, 4]);
     expect_element(&rt, &list, 129, [13, 14, 15, 2_013_265_920]);
     groups[70] = [0, 2_013_265_921, 0, 0];
-    let read = extensions(rt.alloc(), &groups);
+    let read: Result<Vec<BabyBear4>, NumberFault> = extensions(rt.alloc(), &groups);
     let is_there = matches!(&read, Err(NumberFault::Large(70)));
     holds(&rt, "the modulus in a later chunk", is_there);
 }
@@ -421,7 +474,7 @@ fn writes_what_it_reads(rt: HostRuntime) {
         names: b"a bus",
         records: &records,
     };
-    let lookups = read_lookups(rt.alloc(), &tables).expect(&rt, "lookups");
+    let lookups: Vec<Lookup<BabyBear>> = read_lookups(rt.alloc(), &tables).expect(&rt, "lookups");
     let made = write_lookups(rt.alloc(), &lookups).expect(&rt, "tables");
     // lookup after lookup: its tuples, its multiplicities, its flags
     let expected = [

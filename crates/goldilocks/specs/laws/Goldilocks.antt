@@ -1,14 +1,14 @@
 -- The modulus of Goldilocks is a prime, so the integers modulo it are a field; and 7 is not a square in it.
 use Rattle.std.specs.Prelude.{◌≡◌, ◌≢◌, refl}
-use Rattle.std.proofs.Common.{ap, ◌∙◌, inl, inr, arith}
+use Rattle.std.proofs.Common.{ap, ◌∙◌, arith}
 use Rattle.field.specs.Characteristic.{HasCharacteristic, IsPrime}
 use Rattle.field.specs.Residue.{Residue, residue_same}
 use Rattle.field.specs.Ring.{IsCommutativeRing, IsDomain, IsInverse, power}
-use Rattle.goldilocks.specs.Goldilocks.{goldilocks_inverse, goldilocks_of, goldilocks_positive, goldilocks_ring}
-use Rattle.goldilocks.specs.laws.NonResidue.{no_square, power_by_squares, power_by_steps, power-squared}
-use Rattle.field.specs.laws.PrimeResidues.{residue_decide, residue_domain, residue_inverse_is}
+use Rattle.field.specs.laws.NonResidue.{no_square_root, number_nonzero, power_by_squares, power_by_steps, power-squared}
+use Rattle.field.specs.laws.PrimeResidues.{residue_domain, residue_inverse_is}
+use Rattle.field.specs.laws.Proth.{prime_by_proth}
 use Rattle.field.specs.laws.ResidueRing.{residue_characteristic, residue_ring_lawful}
-use Rattle.goldilocks.specs.laws.Proth.{prime_by_proth}
+use Rattle.goldilocks.specs.Goldilocks.{goldilocks_inverse, goldilocks_of, goldilocks_positive, goldilocks_ring}
 
 -- 7 to the power 3.
 step_3 : power goldilocks_ring (goldilocks_of 7) 3 ≡ goldilocks_of 343
@@ -52,22 +52,11 @@ seven_to_half =
 pub goldilocks_prime : IsPrime 18446744069414584321
 goldilocks_prime = prime_by_proth 4294967295 31 18446744069414584321 7 goldilocks_positive refl (omega arith) (omega arith) seven_to_half
 
--- 7 is not zero.
-seven_nonzero : goldilocks_of 7 ≢ goldilocks_ring.zero
-seven_nonzero e =
-    let values : (goldilocks_of 7).value ≡ 0 = ap (λ (x : Residue 18446744069414584321). x.value) e in
-    absurd (omega arith)
-
--- 7 times a nonzero square is no square.
-seven_no_square : (u v : Residue 18446744069414584321) → goldilocks_ring.mul u u ≡ goldilocks_ring.mul (goldilocks_of 7) (goldilocks_ring.mul v v) → v ≢ goldilocks_ring.zero → ⊥
-seven_no_square = no_square 18446744069414584321 goldilocks_positive goldilocks_prime (omega arith) 9223372034707292160 refl (goldilocks_of 7) seven_nonzero seven_to_half
-
--- A square that is 7 times another one is zero, as that one is.
+-- 7 is not a square: a square that is 7 times another one is zero, as that one is.
 pub goldilocks_no_root : (u v : Residue 18446744069414584321) → goldilocks_ring.mul u u ≡ goldilocks_ring.mul (goldilocks_of 7) (goldilocks_ring.mul v v) → v ≡ goldilocks_ring.zero
-goldilocks_no_root u v e = elim (residue_decide 18446744069414584321 goldilocks_positive v) [
-  | inl z ↦ z
-  | inr n ↦ absurd (seven_no_square u v e n)
-]
+goldilocks_no_root =
+    no_square_root 18446744069414584321 goldilocks_positive goldilocks_prime (omega arith) 9223372034707292160 refl (goldilocks_of 7)
+    (number_nonzero 18446744069414584321 goldilocks_positive 7 (omega arith) (omega arith)) seven_to_half
 
 -- The laws of the ring.
 pub goldilocks_lawful : IsCommutativeRing goldilocks_ring

@@ -1,14 +1,14 @@
 -- Which nodes are those of leaves, of negations and of operations with two operands.
-use Rattle.std.specs.Prelude.{nat_le, ◌==◌, ◌&&◌, ◌||◌, nat_lt, Bool}
+use Rattle.std.specs.Prelude.{nat_le, ◌==◌, ◌&&◌, ◌||◌, nat_lt, Bool, ℕ}
 use Rattle.lookup_tables.specs.declared.nodes.Node.{Node}
 
 -- what a node is
-abbrev pub is_leaf : Node → Bool
-is_leaf n =
+abbrev pub is_leaf : ℕ → Node → Bool
+is_leaf p n =
     nat_le n.kind 1
     || (((n.kind == 2) && (n.number == 0))
     || ((nat_le n.kind 5 && (nat_le 3 n.kind && ((n.number == 0) && (n.index == 0))))
-    || ((n.kind == 6) && (nat_lt n.number 2013265921 && (n.index == 0)))))
+    || ((n.kind == 6) && (nat_lt n.number p && (n.index == 0)))))
 
 abbrev pub is_negation : Node → Bool
 is_negation n = (n.kind == 10) && ((n.number == 0) && (n.index == 0))

@@ -6,7 +6,7 @@ abbrev pub AreNumbersUpTo : ℕ → ℕ → List ℕ → Type 0
 AreNumbersUpTo most n numbers = (k : ℕ) → k < n → slice_index numbers k ≤ most
 
 -- four numbers are at most this one
-pub record IsGroupUpTo (most : ℕ) (ns : List ℕ) : Type 0 where
+pub record IsNumberGroupUpTo (most : ℕ) (ns : List ℕ) : Type 0 where
   pub n0 : slice_index ns 0 ≤ most
   pub n1 : slice_index ns 1 ≤ most
   pub n2 : slice_index ns 2 ≤ most

@@ -2,21 +2,22 @@
 use Rattle.std.specs.Prelude.{ℕ, Bool, true, false, nat_lt, if◌then◌else◌, max, List, [], ◌∷◌}
 use Rattle.std.specs.List.{flat_map}
 use Rattle.expressions.specs.Tree.{tree_of}
+use Rattle.field.specs.Residue.{Residue}
 use Rattle.lookup_tables.specs.declared.nodes.Node.{Node}
 use Rattle.lookup_tables.specs.declared.part.Part.{Part}
 use Rattle.lookup_tables.specs.Nodes.{nodes_of}
 use Rattle.lookup_tables.specs.internal.Nodes.{is_leaf, is_negation, is_operation}
 
 -- the nodes of the expressions on the stack
-abbrev pub written : List Part → List Node
-written parts = flat_map (λ p. nodes_of (tree_of p.expression)) parts
+abbrev pub written : {p : ℕ} → List (Part (Residue p)) → List Node
+written parts = flat_map (λ part. nodes_of (tree_of part.expression)) parts
 
 -- their depths, the last one first, before these
-abbrev pub part_depths_on : List ℕ → List Part → List ℕ
+abbrev pub part_depths_on : {F : Type 0} → List ℕ → List (Part F) → List ℕ
 part_depths_on ds [] = ds
 part_depths_on ds (p ∷ ps) = part_depths_on (p.depth ∷ ds) ps
 
-abbrev pub part_depths : List Part → List ℕ
+abbrev pub part_depths : {F : Type 0} → List (Part F) → List ℕ
 part_depths = part_depths_on []
 
 -- whether one or two expressions of these depths are there, none at the bound
@@ -30,6 +31,6 @@ has_two (d ∷ []) = false
 has_two (d ∷ e ∷ ds) = nat_lt (max e d) 1024
 
 -- whether a node goes on from a stack with expressions of these depths
-abbrev pub has_room : List ℕ → Node → Bool
-has_room ds n =
-    if is_leaf n then true else if is_negation n then has_one ds else if is_operation n then has_two ds else false
+abbrev pub has_room : ℕ → List ℕ → Node → Bool
+has_room p ds n =
+    if is_leaf p n then true else if is_negation n then has_one ds else if is_operation n then has_two ds else false

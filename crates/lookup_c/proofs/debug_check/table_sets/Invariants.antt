@@ -1,6 +1,6 @@
 use Rattle.std.proofs.Common.{take}
-use Rattle.lookup_c.specs.DebugCheck.{AreTableSets}
+use Rattle.lookup_c.specs.DebugCheck.{AreDebugSets}
 use Rattle.lookup_c.proofs.debug_check.table_sets.Given as goal
 
 abbrev pub invariant-loop-index : goal.invariant-loop-index
-invariant-loop-index l = AreTableSets (take l.index l.airs) l.sets.items
+invariant-loop-index g l = AreDebugSets (take l.index l.airs) l.sets.items

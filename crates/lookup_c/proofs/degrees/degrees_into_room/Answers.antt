@@ -8,13 +8,13 @@ use Rattle.lookup_c.proofs.AnswerLaws.{refused_is}
 use Rattle.lookup_c.proofs.degrees.degrees_into_room.Goals as goal
 
 pub returns-in_err-set : goal.returns-in_err-set
-returns-in_err-set c = rw (refused_is c.from_residual.result c.from_residual.ensures.1) (inl c.in_err-set.ensures)
+returns-in_err-set g c = rw (refused_is c.from_residual.result c.from_residual.ensures.1) (inl c.in_err-set.ensures)
 
 pub returns-in_err-degrees : goal.returns-in_err-degrees
-returns-in_err-degrees c = rw (refused_is c.from_residual-in_err-degrees.result c.from_residual-in_err-degrees.ensures.1) (inr (lookups_of c.in_ok-set.set, c.in_ok-set.ensures, inl c.in_err-degrees.ensures))
+returns-in_err-degrees g c = rw (refused_is c.from_residual-in_err-degrees.result c.from_residual-in_err-degrees.ensures.1) (inr (lookups_of c.in_ok-set.set, c.in_ok-set.ensures, inl c.in_err-degrees.ensures))
 
 pub returns-then-len-room : goal.returns-then-len-room
-returns-then-len-room c =
+returns-then-len-room g c =
     let lookups = lookups_of c.in_ok-set.set in
     let long : length c.in_ok-degrees.degrees.items ≡ length lookups = ap length c.in_ok-degrees.ensures ∙ length-map lookups (lookup_degree 0) in
     let also : c.len-then-len-room.result ≡ length lookups = omega (arith, long, c.len-then-len-room.ensures) in

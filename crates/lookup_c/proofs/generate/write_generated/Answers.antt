@@ -5,7 +5,7 @@ use Rattle.lookup_c.proofs.AnswerLaws.{refused_answer}
 use Rattle.lookup_c.proofs.generate.write_generated.Goals as goal
 
 pub returns-then-values-auxiliary-clause-answers : goal.returns-then-values-auxiliary-clause-answers
-returns-then-values-auxiliary-clause-answers c = refused_answer
+returns-then-values-auxiliary-clause-answers g c = refused_answer
     (Length Auxiliary (length c.values-values.result.now) (length c.args.auxiliary.now))
     c.refuse.ensures.code
     c.refuse.ensures.refused

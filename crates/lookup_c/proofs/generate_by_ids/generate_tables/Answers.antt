@@ -1,24 +1,27 @@
-use Rattle.std.proofs.Common.{◌∙◌, List, ap, arith, inl, inr, length, subst, sym}
-use Rattle.lookup_model.specs.declared.types.Lookup.{Lookup}
-use Rattle.lookup_tables.specs.Nodes.{BabyBear}
-use Rattle.lookup_tables.specs.Tables.{EncodeLookups}
-use Rattle.lookup_c.proofs.GenerateLaws.{generates_by_ids}
+use Rattle.std.proofs.Common.{◌∙◌, ap, arith, inl, length, subst₂, sym}
+use Rattle.lookup_c.specs.Generate.{GenerateFits}
 use Rattle.lookup_c.proofs.AnswerLaws.{refused_is}
+use Rattle.lookup_c.proofs.ByIdsLaws.{generated_by_ids}
 use Rattle.lookup_c.proofs.generate_by_ids.generate_tables.Goals as goal
 
-pub returns-in_err-traces : goal.returns-in_err-traces
-returns-in_err-traces c = rw (refused_is c.from_residual-in_err-traces.result c.from_residual-in_err-traces.ensures.1) (inr (inl c.in_err-traces.ensures))
+pub returns-in_err-air : goal.returns-in_err-air
+returns-in_err-air g c = rw (refused_is c.from_residual.result c.from_residual.ensures.1) (inl c.in_err-air.ensures)
+
+pub generate_fitting-requires : goal.generate_fitting-requires
+generate_fitting-requires g c =
+    let read = c.in_ok-air.ensures in (
+      omega arith,
+      (
+        omega arith,
+        (
+          subst₂ GenerateFits (sym read.traces_are) (sym c.deref.ensures.value) read.is.fitting,
+          omega (arith, c.in_ok-challenges.ensures.len, read.is.read.as_many, ap length c.deref.ensures.value, ap length c.deref-2.ensures.value),
+        ),
+      ),
+    )
 
 pub returns : goal.returns
-returns c =
-    generates_by_ids _ c.args.tables.now c.args.traces.now c.generate_lookups.result c.deref.result.now c.in_ok-traces.traces c.deref-2.result.now
-    (subst (λ (ls : List (Lookup BabyBear)). EncodeLookups c.args.tables.now ls) (sym c.deref.ensures.value) c.in_ok-lookups.ensures) c.in_ok-traces.ensures
-    c.args.ids.now c.args.sizes.now c.args.alpha.now c.args.beta.now (omega (arith, c.if-ids-len.false, c.len.ensures, ap length c.deref.ensures.value))
-    (record {
-      a = c.in_ok-alpha.alpha;
-      b = c.in_ok-beta.beta;
-      alpha_is = c.in_ok-alpha.ensures;
-      beta_is = c.in_ok-beta.ensures;
-      ids_are = c.in_ok-challenges.ensures.0;
-      are = c.deref-2.ensures.value ∙ c.in_ok-challenges.ensures.1;
-    }) c.generate_lookups.ensures
+returns g c =
+    let read = c.in_ok-air.ensures in
+    generated_by_ids g.K.MontyParameters.positive _ c.args.tables.now c.args.traces.now _ _ _ _ c.generate_fitting.result c.in_ok-air.air.lookups.items _ read.a read.b _ _ _ read.is read.traces_are
+    c.deref.ensures.value (c.deref-2.ensures.value ∙ c.in_ok-challenges.ensures.challenges) read.challenges_are.table_is c.generate_fitting.ensures

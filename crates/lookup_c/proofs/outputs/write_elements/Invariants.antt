@@ -3,4 +3,4 @@ use Rattle.lookup_tables.specs.Numbers.{numbers_of}
 use Rattle.lookup_c.proofs.outputs.write_elements.Given as goal
 
 abbrev pub invariant-loop-index : goal.invariant-loop-index
-invariant-loop-index l = take (l.at + l.index) l.cells ≡ take l.at l.initial.cells ++ map numbers_of (take l.index l.values)
+invariant-loop-index g l = take (l.at + l.index) l.cells ≡ take l.at l.initial.cells ++ map numbers_of (take l.index l.values)

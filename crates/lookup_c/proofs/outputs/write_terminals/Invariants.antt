@@ -3,4 +3,4 @@ use Rattle.lookup_c.specs.Outputs.{terminal_numbers}
 use Rattle.lookup_c.proofs.outputs.write_terminals.Given as goal
 
 abbrev pub invariant-loop-index : goal.invariant-loop-index
-invariant-loop-index l = take l.index l.terminals ≡ map terminal_numbers (take l.index l.values)
+invariant-loop-index g l = take l.index l.terminals ≡ map terminal_numbers (take l.index l.values)

@@ -4,13 +4,13 @@ use Rattle.lookup_c.proofs.AnswerLaws.{refused_is}
 use Rattle.lookup_c.proofs.pack.pack_tables.Goals as goal
 
 pub returns-in_err-set : goal.returns-in_err-set
-returns-in_err-set c = rw (refused_is c.from_residual.result c.from_residual.ensures.1) (inl c.in_err-set.ensures)
+returns-in_err-set g c = rw (refused_is c.from_residual.result c.from_residual.ensures.1) (inl c.in_err-set.ensures)
 
 pub returns-in_err-after : goal.returns-in_err-after
-returns-in_err-after c = rw (refused_is c.from_residual-in_err-after.result c.from_residual-in_err-after.ensures.1) (inr (c.in_ok-set.set, c.in_ok-set.ensures, inl c.in_err-after.ensures))
+returns-in_err-after g c = rw (refused_is c.from_residual-in_err-after.result c.from_residual-in_err-after.ensures.1) (inr (c.in_ok-set.set, c.in_ok-set.ensures, inl c.in_err-after.ensures))
 
 pub returns : goal.returns
-returns c = MatchResult-weaker c.tables_for.result c.tables_for.ensures
+returns g c = MatchResult-weaker c.tables_for.result c.tables_for.ensures
     (λ w made. (
       record {
         before = c.in_ok-set.set;

@@ -1,7 +1,7 @@
 use Rattle.std.proofs.Common.{◌∙◌, ap, inl, inr, length, sym}
 use Rattle.std.specs.List.{flat_map}
 use Rattle.batch.specs.Runs.{plan_of}
-use Rattle.lookup_c.specs.Plan.{items_of}
+use Rattle.lookup_c.specs.Plan.{id_items}
 use Rattle.lookup_c.specs.declared.codes.Part.TheVariants.{Ids}
 use Rattle.lookup_c.specs.declared.fault.Fault.TheVariants.{Length}
 use Rattle.lookup_c.proofs.AnswerLaws.{refused_is}
@@ -9,9 +9,9 @@ use Rattle.lookup_c.proofs.WrittenLaws.{all_ids_are}
 use Rattle.lookup_c.proofs.plan.plan_into_room.Goals as goal
 
 pub returns-in_err-plan : goal.returns-in_err-plan
-returns-in_err-plan c = rw (refused_is c.from_residual.result c.from_residual.ensures.1) (inr (inl c.in_err-plan.ensures))
+returns-in_err-plan g c = rw (refused_is c.from_residual.result c.from_residual.ensures.1) (inr (inl c.in_err-plan.ensures))
 
 pub returns-then-expected-room : goal.returns-then-expected-room
-returns-then-expected-room c =
-    let many = c.in-Some.ensures ∙ (ap (λ is. length (flat_map items_of is)) c.ids.ensures ∙ ap length (sym (all_ids_are c.in_ok-plan.plan.ids.items))) in
+returns-then-expected-room g c =
+    let many = c.in-Some.ensures ∙ (ap (λ is. length (flat_map id_items is)) c.ids.ensures ∙ ap length (sym (all_ids_are c.in_ok-plan.plan.ids.items))) in
     inr (inr (plan_of c.in_ok-plan.plan, c.in_ok-plan.ensures, λ same. c.if-expected-room.true (many ∙ same), ap (λ n. Length Ids n c.args.room) many))

@@ -1,6 +1,6 @@
 use Rattle.std.proofs.Common.{ap, arith, length}
 use Rattle.lookup_c.proofs.WrittenLaws.{room_left}
-use Rattle.lookup_c.specs.Plan.{items_of}
+use Rattle.lookup_c.specs.Plan.{id_items}
 use Rattle.lookup_c.proofs.plan.write_ids.Goals as goal
 
 pub write_numbers-requires : goal.write_numbers-requires
@@ -8,5 +8,5 @@ write_numbers-requires c =
     omega (
       arith,
       c.loop-list.auto.numbers,
-      room_left items_of c.args.ids.now c.loop-list.list-index _ c.list-item.result c.loop-list-test.true c.list-item.is c.loop-list.at (length c.as_slice.result.now) (length c.args.numbers.now) (ap length c.as_slice.ensures.value) c.loop-list.invariant.at_is c.requires,
+      room_left id_items c.args.ids.now c.loop-list.list-index _ c.list-item.result c.loop-list-test.true c.list-item.is c.loop-list.at (length c.as_slice.result.now) (length c.args.numbers.now) (ap length c.as_slice.ensures.value) c.loop-list.invariant.at_is c.requires,
     )

@@ -1,32 +1,49 @@
-use Rattle.std.proofs.Common.{arith, inr, subst₂}
-use Rattle.lookup_c.specs.Generate.{AreFitting, IsUnfit}
+use Rattle.std.proofs.Common.{arith, inl, inr, subst₂}
+use Rattle.lookup_c.specs.Generate.{GenerateFits, IsGenerateUnfit}
 use Rattle.lookup_c.proofs.AnswerLaws.{refused_is}
 use Rattle.lookup_c.proofs.BatchLaws.{decoded}
 use Rattle.lookup_c.proofs.planned_air.read_air.Goals as goal
 
+pub returns-in_err-lookups : goal.returns-in_err-lookups
+returns-in_err-lookups g c = rw (refused_is c.from_residual.result c.from_residual.ensures.1) (inl c.in_err-lookups.ensures)
+
+pub returns-in_err-traces : goal.returns-in_err-traces
+returns-in_err-traces g c = rw (refused_is c.from_residual-in_err-traces.result c.from_residual-in_err-traces.ensures.1) (inr (inl c.in_err-traces.ensures))
+
 pub returns-in_err-check_fit : goal.returns-in_err-check_fit
-returns-in_err-check_fit c =
+returns-in_err-check_fit g c =
     let fault = c.in_err-check_fit.field-0.0 in
     rw (refused_is c.from_residual-in_err-check_fit.result c.from_residual-in_err-check_fit.ensures.1)
-    (inr (inr (inr (inr (inr (
+    (inr (inr (inr (inr (inr (inr (
       c.in_ok-lookups.lookups.items,
-      c.in_ok-lookups.ensures,
-      inr (subst₂ (λ traces lookups. IsUnfit traces lookups fault) (decoded c.args.traces.now c.in_ok-traces.traces c.in_ok-traces.ensures) c.deref.ensures.value c.in_err-check_fit.ensures),
-    ))))))
+      c.in_ok-alpha.alpha,
+      c.in_ok-beta.beta,
+      record {
+        encoded = c.in_ok-lookups.ensures;
+        traces_below = c.in_ok-traces.ensures.canonical;
+        alpha_is = c.in_ok-alpha.ensures;
+        beta_is = c.in_ok-beta.ensures;
+        ids_are = c.in_ok-challenges.ensures.ids_are;
+        as_many = omega (arith, c.if-plan-len.false, c.len.ensures);
+      },
+      subst₂ (λ traces lookups. IsGenerateUnfit traces lookups fault) (decoded g.K.MontyParameters.positive c.args.traces.now c.in_ok-traces.traces c.in_ok-traces.ensures) c.deref.ensures.value c.in_err-check_fit.ensures,
+    )))))))
 
 pub returns : goal.returns
-returns c = record {
+returns g c = record {
   a = c.in_ok-alpha.alpha;
   b = c.in_ok-beta.beta;
   is = record {
-    encoded = c.in_ok-lookups.ensures;
-    traces_below = c.in_ok-traces.ensures.canonical;
-    alpha_is = c.in_ok-alpha.ensures;
-    beta_is = c.in_ok-beta.ensures;
-    ids_are = c.in_ok-challenges.ensures.ids_are;
-    as_many = omega (arith, c.if-plan-len.false, c.len.ensures);
-    fitting = subst₂ AreFitting (decoded c.args.traces.now c.in_ok-traces.traces c.in_ok-traces.ensures) c.deref.ensures.value c.in_ok-check_fit.ensures;
+    read = record {
+      encoded = c.in_ok-lookups.ensures;
+      traces_below = c.in_ok-traces.ensures.canonical;
+      alpha_is = c.in_ok-alpha.ensures;
+      beta_is = c.in_ok-beta.ensures;
+      ids_are = c.in_ok-challenges.ensures.ids_are;
+      as_many = omega (arith, c.if-plan-len.false, c.len.ensures);
+    };
+    fitting = subst₂ GenerateFits (decoded g.K.MontyParameters.positive c.args.traces.now c.in_ok-traces.traces c.in_ok-traces.ensures) c.deref.ensures.value c.in_ok-check_fit.ensures;
   };
-  traces_are = decoded c.args.traces.now c.in_ok-traces.traces c.in_ok-traces.ensures;
+  traces_are = decoded g.K.MontyParameters.positive c.args.traces.now c.in_ok-traces.traces c.in_ok-traces.ensures;
   challenges_are = c.in_ok-challenges.ensures;
 }

@@ -3,9 +3,9 @@ use Rattle.lookup_tables.proofs.NumberLaws.{first_large_group, groups_next}
 use Rattle.lookup_c.proofs.shift.first_large_cell.Goals as goal
 
 pub returns-in-None : goal.returns-in-None
-returns-in-None c =
-    first_large_group c.args.cells.now c.loop-index.index _ c.loop-index-test.true c.in-None.ensures c.loop-index.invariant
+returns-in-None g c =
+    first_large_group g.row.P c.args.cells.now c.loop-index.index _ c.loop-index-test.true c.in-None.ensures c.loop-index.invariant
 
 pub loop-index-preserved : goal.loop-index-preserved
-loop-index-preserved c =
-    groups_next c.args.cells.now c.loop-index.index _ (slice_get-get_or c.args.cells.now c.loop-index.index _ c.loop-index-test.true) c.in-Some.ensures.1 c.loop-index.invariant
+loop-index-preserved g c =
+    groups_next g.row.P c.args.cells.now c.loop-index.index _ (slice_get-get_or c.args.cells.now c.loop-index.index _ c.loop-index-test.true) c.in-Some.ensures.1 c.loop-index.invariant

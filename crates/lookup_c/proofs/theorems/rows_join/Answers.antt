@@ -2,4 +2,4 @@ use Rattle.lookup_c.proofs.JoinedLaws.{rows_join_of}
 use Rattle.lookup_c.proofs.theorems.rows_join.Goals as goal
 
 pub returns : goal.returns
-returns c = rows_join_of _ c.ranges_join.ensures
+returns g c = rows_join_of g.K.MontyParameters.positive _ c.ranges_join.ensures

@@ -1,58 +1,61 @@
 use Rattle.std.proofs.Common.{◌∙◌, ◌<◌, All, ap, arith, inl, inr, length, refl, subst, sym}
 use Rattle.std.specs.Box.{boxed_slice_items}
-use Rattle.lookup_c.specs.Rows.{HasRowsAround}
-use Rattle.lookup_c.specs.VerifyRows.{instance_over}
+use Rattle.lookup_c.specs.Rows.{HasCallRowsAround}
+use Rattle.lookup_c.specs.VerifyRows.{instance_with_ids}
 use Rattle.lookup_c.proofs.AnswerLaws.{refused_is}
 use Rattle.lookup_c.proofs.RowChecks.{read_fits, row_fails, rows_hold, shape_refused}
 use Rattle.lookup_c.proofs.verify_rows.verify_tables.Goals as goal
 
 pub returns-in_err-air : goal.returns-in_err-air
-returns-in_err-air c = rw (refused_is c.from_residual.result c.from_residual.ensures.1) (inl c.in_err-air.ensures)
+returns-in_err-air g c = rw (refused_is c.from_residual.result c.from_residual.ensures.1) (inl c.in_err-air.ensures)
+
+pub returns-in_err-aux : goal.returns-in_err-aux
+returns-in_err-aux g c = rw (refused_is c.from_residual-in_err-aux.result c.from_residual-in_err-aux.ensures.1) (inr (inr (inl c.in_err-aux.ensures)))
 
 pub returns-in_err-terminal : goal.returns-in_err-terminal
-returns-in_err-terminal c = rw (refused_is c.from_residual-in_err-terminal.result c.from_residual-in_err-terminal.ensures.1) (inr (inr (inr (inl c.in_err-terminal.ensures))))
+returns-in_err-terminal g c = rw (refused_is c.from_residual-in_err-terminal.result c.from_residual-in_err-terminal.ensures.1) (inr (inr (inr (inl c.in_err-terminal.ensures))))
 
 pub returns-in-Err : goal.returns-in-Err
-returns-in-Err c =
+returns-in-Err g c =
     let read = c.in_ok-air.ensures in
     inr (inr (inr (inr (inr (inl (
       c.in-Err.error,
       refl,
-      shape_refused _ c.args.tables.now c.args.around.now c.args.rows.now _ _ _ _ c.args.witness.now c.in_ok-air.air.lookups.items read.a read.b _ read.is
-          (subst (HasRowsAround c.args.rows.now) read.traces_are c.in_ok-range.ensures.1)
-          (c.instance_of-instance.ensures ∙ ap (instance_over c.in_ok-air.air.lookups.items c.args.plan.now.ids.now) read.traces_are)
+      shape_refused g.K.MontyParameters.positive _ c.args.tables.now c.args.around.now c.args.rows.now _ _ _ _ c.args.witness.now c.in_ok-air.air.lookups.items read.a read.b _ read.is
+          (subst (HasCallRowsAround c.args.rows.now) read.traces_are c.in_ok-range.ensures.1)
+          (c.instance_of-instance.ensures ∙ ap (instance_with_ids c.in_ok-air.air.lookups.items c.args.plan.now.ids.now) read.traces_are)
           c.in_ok-aux.aux c.in_ok-terminal.terminal (record { whole = c.in_ok-aux.ensures.1; cells = c.in_ok-aux.ensures.2; terminal = c.in_ok-terminal.ensures.1 }) c.in_ok-aux.ensures.0 c.in_ok-terminal.ensures.0 c.in-Err.error c.in-Err.ensures,
     ))))))
 
 pub rows_hold_around-requires-clause-fit : goal.rows_hold_around-requires-clause-fit
-rows_hold_around-requires-clause-fit c =
+rows_hold_around-requires-clause-fit g c =
     let read = c.in_ok-air.ensures in
-    read_fits c.args.tables.now c.args.around.now c.args.rows.now _ _ _ _ c.in_ok-air.air.lookups.items read.a read.b _ read.is
-    (subst (HasRowsAround c.args.rows.now) read.traces_are c.in_ok-range.ensures.1)
-    (c.instance_of-instance.ensures ∙ ap (instance_over c.in_ok-air.air.lookups.items c.args.plan.now.ids.now) read.traces_are)
+    read_fits g.K.MontyParameters.positive c.args.tables.now c.args.around.now c.args.rows.now _ _ _ _ c.in_ok-air.air.lookups.items read.a read.b _ read.is
+    (subst (HasCallRowsAround c.args.rows.now) read.traces_are c.in_ok-range.ensures.1)
+    (c.instance_of-instance.ensures ∙ ap (instance_with_ids c.in_ok-air.air.lookups.items c.args.plan.now.ids.now) read.traces_are)
 
 pub rows_hold_around-requires-clause-ids : goal.rows_hold_around-requires-clause-ids
-rows_hold_around-requires-clause-ids c =
+rows_hold_around-requires-clause-ids g c =
     subst (All (λ id. id < length (boxed_slice_items c.in_ok-air.air.challenges.bus_prefix))) (sym (ap (λ i. i.ids) c.instance_of-instance.ensures)) c.in_ok-air.ensures.challenges_are.has_prefixes
 
 pub returns-then-row-range : goal.returns-then-row-range
-returns-then-row-range c =
+returns-then-row-range g c =
     let read = c.in_ok-air.ensures in
     inr (inr (inr (inr (inr (inr (
       c.in_ok-row.row,
       refl,
       omega (arith, c.if-row-range.true, ap (λ r. r.end) c.in_ok-range.ensures.0),
-      row_fails _ c.args.tables.now c.args.around.now c.args.rows.now _ _ _ _ c.args.witness.now c.in_ok-air.air.lookups.items read.a read.b _ read.is
-          (subst (HasRowsAround c.args.rows.now) read.traces_are c.in_ok-range.ensures.1)
-          (c.instance_of-instance.ensures ∙ ap (instance_over c.in_ok-air.air.lookups.items c.args.plan.now.ids.now) read.traces_are)
+      row_fails g.K.MontyParameters.positive _ c.args.tables.now c.args.around.now c.args.rows.now _ _ _ _ c.args.witness.now c.in_ok-air.air.lookups.items read.a read.b _ read.is
+          (subst (HasCallRowsAround c.args.rows.now) read.traces_are c.in_ok-range.ensures.1)
+          (c.instance_of-instance.ensures ∙ ap (instance_with_ids c.in_ok-air.air.lookups.items c.args.plan.now.ids.now) read.traces_are)
           c.in_ok-aux.aux c.in_ok-terminal.terminal (record { whole = c.in_ok-aux.ensures.1; cells = c.in_ok-aux.ensures.2; terminal = c.in_ok-terminal.ensures.1 }) c.in_ok-aux.ensures.0 c.in_ok-terminal.ensures.0 _ c.in_ok-range.range read.challenges_are.table_is c.in_ok-range.ensures.0 c.in_default.ensures c.in_ok-row.row c.in_ok-row.ensures,
     ))))))
 
 pub returns : goal.returns
-returns c =
+returns g c =
     let read = c.in_ok-air.ensures in
-    rows_hold _ c.args.tables.now c.args.around.now c.args.rows.now _ _ _ _ c.args.witness.now c.in_ok-air.air.lookups.items read.a read.b _ read.is
-    (subst (HasRowsAround c.args.rows.now) read.traces_are c.in_ok-range.ensures.1)
-    (c.instance_of-instance.ensures ∙ ap (instance_over c.in_ok-air.air.lookups.items c.args.plan.now.ids.now) read.traces_are)
+    rows_hold g.K.MontyParameters.positive _ c.args.tables.now c.args.around.now c.args.rows.now _ _ _ _ c.args.witness.now c.in_ok-air.air.lookups.items read.a read.b _ read.is
+    (subst (HasCallRowsAround c.args.rows.now) read.traces_are c.in_ok-range.ensures.1)
+    (c.instance_of-instance.ensures ∙ ap (instance_with_ids c.in_ok-air.air.lookups.items c.args.plan.now.ids.now) read.traces_are)
     c.in_ok-aux.aux c.in_ok-terminal.terminal (record { whole = c.in_ok-aux.ensures.1; cells = c.in_ok-aux.ensures.2; terminal = c.in_ok-terminal.ensures.1 }) c.in_ok-aux.ensures.0 c.in_ok-terminal.ensures.0 _ c.in_ok-range.range read.challenges_are.table_is c.in_ok-range.ensures.0 c.in_default.ensures c.in_ok-row.row c.in_ok-row.ensures
     (omega (arith, c.if-row-range.false, ap (λ r. r.end) c.in_ok-range.ensures.0))

@@ -3,9 +3,9 @@ use Rattle.lookup_tables.proofs.NumberLaws.{first_large_group, groups_next}
 use Rattle.lookup_tables.proofs.numbers.first_large_group.Goals as goal
 
 pub returns-in-None : goal.returns-in-None
-returns-in-None c =
-    first_large_group c.args.groups.now c.loop-index.index _ c.loop-index-test.true c.in-None.ensures c.loop-index.invariant
+returns-in-None g c =
+    first_large_group g.row.P c.args.groups.now c.loop-index.index _ c.loop-index-test.true c.in-None.ensures c.loop-index.invariant
 
 pub loop-index-preserved : goal.loop-index-preserved
-loop-index-preserved c =
-    groups_next c.args.groups.now c.loop-index.index _ (slice_get-get_or c.args.groups.now c.loop-index.index _ c.loop-index-test.true) c.in-Some.ensures.1 c.loop-index.invariant
+loop-index-preserved g c =
+    groups_next g.row.P c.args.groups.now c.loop-index.index _ (slice_get-get_or c.args.groups.now c.loop-index.index _ c.loop-index-test.true) c.in-Some.ensures.1 c.loop-index.invariant

@@ -1,15 +1,15 @@
 use Rattle.std.proofs.Common.{◌≡◌, ◌≤◌, ◌-◌, All, length, map, take, vec_capacity}
-use Rattle.lookup_tables.specs.Numbers.{quartic_of}
-use Rattle.lookup_tables.specs.internal.Numbers.{IsGroupUpTo}
+use Rattle.lookup_tables.specs.Numbers.{quartic_of_numbers}
+use Rattle.lookup_tables.specs.internal.Numbers.{IsNumberGroupUpTo}
 use Rattle.lookup_tables.proofs.numbers.quartics_of.Given as goal
 
 abbrev pub invariant-loop-first : goal.invariant-loop-first
-invariant-loop-first l = record {
+invariant-loop-first g l = record {
   within : l.first ≤ length l.groups;
-  values : l.values.items ≡ map quartic_of (take l.first l.groups);
+  values : l.values.items ≡ map (quartic_of_numbers g.K.MontyParameters.positive) (take l.first l.groups);
   has_room : length l.groups ≤ vec_capacity l.values;
-  greatest : All (IsGroupUpTo l.greatest) (take l.first l.groups);
+  greatest : All (IsNumberGroupUpTo l.greatest) (take l.first l.groups);
 }
 
 abbrev pub decreases-loop-first : goal.decreases-loop-first
-decreases-loop-first l = length l.groups - l.first
+decreases-loop-first g l = length l.groups - l.first

@@ -3,4 +3,4 @@ use Rattle.lookup_tables.specs.internal.Stack.{written}
 use Rattle.lookup_tables.proofs.reader.read_parts.Given as goal
 
 abbrev pub invariant-loop-index : goal.invariant-loop-index
-invariant-loop-index l = written l.stack.items ≡ take l.index l.nodes
+invariant-loop-index g l = written l.stack.items ≡ take l.index l.nodes

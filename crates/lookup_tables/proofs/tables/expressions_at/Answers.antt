@@ -7,7 +7,7 @@ in_range : (nodes : List Node) (a b i : ℕ) → a ≤ b → b ≤ length nodes 
 in_range nodes a b i ordered ends within = omega (arith, ordered, ends, within, length-take (b - a) (drop a nodes), length-drop a nodes)
 
 pub overflow_add-result : goal.overflow_add-result
-overflow_add-result c = elim c.in-Err-Bad.ensures.reads [
+overflow_add-result g c = elim c.in-Err-Bad.ensures.reads [
   | inl memory ↦ absurd (grind (arith, memory))
   | inr first ↦
       let same : c.in-Err-Bad.index ≡ first.0 = cc first.1 in
@@ -15,8 +15,8 @@ overflow_add-result c = elim c.in-Err-Bad.ensures.reads [
 ]
 
 pub returns-in-Err-Bad : goal.returns-in-Err-Bad
-returns-in-Err-Bad c = elim c.in-Err-Bad.ensures.reads [
+returns-in-Err-Bad g c = elim c.in-Err-Bad.ensures.reads [
   | inl memory ↦ absurd (grind (arith, memory))
   | inr first ↦
-      inr (none_written c.args.nodes.now c.args.span first.0 first.2, (record { ordered = c.if-span.false; ends = c.if-span-nodes.false }, omega arith, (first.0, ap (λ i. c.args.span.start + i) (cc first.1), first.2)))
+      inr (none_written g.row.P c.args.nodes.now c.args.span first.0 first.2, (record { ordered = c.if-span.false; ends = c.if-span-nodes.false }, omega arith, (first.0, ap (λ i. c.args.span.start + i) (cc first.1), first.2)))
 ]
