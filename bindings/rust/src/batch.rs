@@ -4,6 +4,7 @@ use crate::air::{self, Air};
 use crate::element::Element;
 use crate::error::Error;
 use crate::ffi::{self, PlanSizes, Planned, PlannedIds};
+use crate::field::Field;
 use crate::ranges::{SharedWork, TracedAir};
 use crate::traces::Traces;
 use crate::witness::{AuxiliaryShape, Witness};
@@ -18,8 +19,8 @@ use std::iter::{self, zip};
 /// read; but [`generate`](Batch::generate) and [`debug_check`](Batch::debug_check) do not compare
 /// heights.
 #[derive(Clone, Debug)]
-pub struct Batch {
-    airs: Vec<Air>,
+pub struct Batch<F> {
+    airs: Vec<Air<F>>,
     heights: Vec<usize>,
     ids: Vec<Vec<usize>>,
     sizes: PlanSizes,
@@ -67,19 +68,19 @@ pub struct HeightSoundness {
     pub accepting_alphas: Option<u128>,
 }
 
-impl Batch {
+impl<F: Field> Batch<F> {
     /// The batch of these AIRs, each with the height of its traces.
     ///
     /// Refuses tuples of two widths on one bus or in a local lookup, more ids than the field has
     /// whole numbers, and weights times heights that reach the modulus.
-    pub fn new<'a>(airs: impl IntoIterator<Item = (&'a Air, usize)>) -> Result<Self, Error> {
-        let (airs, heights): (Vec<Air>, Vec<usize>) =
+    pub fn new<'a>(airs: impl IntoIterator<Item = (&'a Air<F>, usize)>) -> Result<Self, Error> {
+        let (airs, heights): (Vec<Air<F>>, Vec<usize>) =
             airs.into_iter().map(|(air, height)| (air.clone(), height)).unzip();
         let mut ids = vec![0; airs.iter().map(|air| air.len()).sum()];
-        let planned: Vec<Planned<'_>> = planned(&airs, &heights);
+        let planned: Vec<Planned<'_, F>> = planned(&airs, &heights);
         let sizes = ffi::plan(&planned, &mut ids)?;
         let mut left = ids.into_iter();
-        let of_air = |air: &Air| left.by_ref().take(air.len()).collect();
+        let of_air = |air: &Air<F>| left.by_ref().take(air.len()).collect();
         let ids = airs.iter().map(of_air).collect();
         Ok(Batch { airs, heights, ids, sizes, threads: None })
     }
@@ -97,7 +98,7 @@ impl Batch {
     }
 
     /// The AIRs.
-    pub fn airs(&self) -> &[Air] {
+    pub fn airs(&self) -> &[Air<F>] {
         &self.airs
     }
 
@@ -132,9 +133,9 @@ impl Batch {
     pub fn prove(
         &self,
         traces: &[Traces<'_>],
-        alpha: Element,
-        beta: Element,
-    ) -> Result<Witness, Error> {
+        alpha: Element<F>,
+        beta: Element<F>,
+    ) -> Result<Witness<F>, Error> {
         let mut witness = Witness::default();
         self.prove_into(traces, alpha, beta, &mut witness)?;
         Ok(witness)
@@ -148,9 +149,9 @@ impl Batch {
     pub fn prove_into(
         &self,
         traces: &[Traces<'_>],
-        alpha: Element,
-        beta: Element,
-        witness: &mut Witness,
+        alpha: Element<F>,
+        beta: Element<F>,
+        witness: &mut Witness<F>,
     ) -> Result<(), Error> {
         let shapes = self.shapes(traces);
         let shared = self.shared(traces, alpha, beta);
@@ -174,9 +175,9 @@ impl Batch {
         &self,
         air: usize,
         traces: &Traces<'_>,
-        alpha: Element,
-        beta: Element,
-    ) -> Result<Witness, Error> {
+        alpha: Element<F>,
+        beta: Element<F>,
+    ) -> Result<Witness<F>, Error> {
         let mut witness = Witness::default();
         self.generate_into(air, traces, alpha, beta, &mut witness)?;
         Ok(witness)
@@ -189,9 +190,9 @@ impl Batch {
         &self,
         air: usize,
         traces: &Traces<'_>,
-        alpha: Element,
-        beta: Element,
-        witness: &mut Witness,
+        alpha: Element<F>,
+        beta: Element<F>,
+        witness: &mut Witness<F>,
     ) -> Result<(), Error> {
         let planned = self.planned_ids().nth(air).ok_or_else(|| Error::no_such_air(air));
         let shapes: Vec<AuxiliaryShape> =
@@ -217,9 +218,9 @@ impl Batch {
     pub fn verify(
         &self,
         traces: &[Traces<'_>],
-        alpha: Element,
-        beta: Element,
-        witness: &Witness,
+        alpha: Element<F>,
+        beta: Element<F>,
+        witness: &Witness<F>,
     ) -> Result<(), Error> {
         if self.shared(traces, alpha, beta).is_some_and(|work| work.verify(witness)) {
             return Ok(());
@@ -261,17 +262,17 @@ impl Batch {
     pub fn grid_count(
         &self,
         traces: &[Traces<'_>],
-        alphas: &[Element],
-        betas: &[Element],
+        alphas: &[Element<F>],
+        betas: &[Element<F>],
     ) -> Result<GridCount, Error> {
         ffi::grid_count(&self.planned(), traces, alphas, betas)
     }
 
-    fn planned(&self) -> Vec<Planned<'_>> {
+    fn planned(&self) -> Vec<Planned<'_, F>> {
         planned(&self.airs, &self.heights)
     }
 
-    fn planned_ids(&self) -> impl Iterator<Item = PlannedIds<'_>> + Clone {
+    fn planned_ids(&self) -> impl Iterator<Item = PlannedIds<'_, F>> + Clone {
         let sizes = &self.sizes;
         zip(&self.airs, &self.ids).map(move |(air, ids)| PlannedIds {
             tables: air.tables(),
@@ -285,9 +286,9 @@ impl Batch {
     pub(crate) fn shared<'a>(
         &'a self,
         traces: &[Traces<'a>],
-        alpha: Element,
-        beta: Element,
-    ) -> Option<SharedWork<'a>> {
+        alpha: Element<F>,
+        beta: Element<F>,
+    ) -> Option<SharedWork<'a, F>> {
         if !self.are_heights_of(traces) {
             return None;
         }
@@ -306,7 +307,7 @@ impl Batch {
     /// the call is refused whatever room it has: it gets no room, which otherwise could be immense.
     fn shapes(&self, traces: &[Traces<'_>]) -> Vec<AuxiliaryShape> {
         let fit = self.are_heights_of(traces);
-        let shape = |(air, height): (&Air, &usize)| {
+        let shape = |(air, height): (&Air<F>, &usize)| {
             AuxiliaryShape::of(air.tables(), if fit { *height } else { 0 })
         };
         self.airs.iter().zip(&self.heights).map(shape).collect()
@@ -314,8 +315,8 @@ impl Batch {
 }
 
 /// The AIRs as a plan takes them.
-fn planned<'a>(airs: &'a [Air], heights: &[usize]) -> Vec<Planned<'a>> {
+fn planned<'a, F: Field>(airs: &'a [Air<F>], heights: &[usize]) -> Vec<Planned<'a, F>> {
     let planned =
-        |(air, height): (&'a Air, &usize)| Planned { tables: air.tables(), height: *height };
+        |(air, height): (&'a Air<F>, &usize)| Planned { tables: air.tables(), height: *height };
     airs.iter().zip(heights).map(planned).collect()
 }

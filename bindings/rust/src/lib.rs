@@ -1,9 +1,10 @@
-//! Volgwain's lookup layer: LogUp lookups over `BabyBear`, the integers modulo 2013265921, with
-//! challenges in its quartic extension, the polynomials modulo `X^4 - 11`.
+//! Volgwain's lookup layer: LogUp lookups over [`BabyBear`] or [`KoalaBear`], with challenges in the
+//! quartic extension of the field.
 //!
 //! The work is done by a static library whose functions are proved to meet their contracts; this
-//! crate only calls it. `docs/RUST.md` of the repository says how to build and link it, and
-//! `docs/C.md` what is proved.
+//! crate only calls it. The package of a release has the library, for Linux on x86_64, and needs no
+//! more than `cargo`. In a clone of the repository it has to be made first: `docs/RUST.md` says how,
+//! and `docs/C.md` what is proved. Documentation alone is made without it where `DOCS_RS` is set.
 //!
 //! - An [`Expr`] is an expression over a row and the next one. Expressions of your own become one
 //!   by [`Symbolic`].
@@ -11,6 +12,9 @@
 //!   table.
 //! - A [`Batch`] has AIRs with the heights of their traces. It makes a [`Witness`], the auxiliary
 //!   traces and terminals, and verifies one, whoever made it.
+//!
+//! These names stand for types over `BabyBear`. The module [`koala_bear`] has the same names over
+//! `KoalaBear`, and [`generic`] the types over any [`Field`].
 //!
 //! ```
 //! use volgwain::{Air, Batch, Element, Expr, Lookup, Message, Traces};
@@ -52,6 +56,7 @@ mod element;
 mod error;
 mod expr;
 mod ffi;
+mod field;
 mod lookup;
 mod ranges;
 mod symbolic;
@@ -59,12 +64,90 @@ mod tables;
 mod traces;
 mod witness;
 
-pub use air::{Air, debug_check};
-pub use batch::{Batch, GridCount, HeightSoundness, SoundnessCount};
-pub use element::{Element, MODULUS};
+pub use air::debug_check;
+pub use batch::{GridCount, HeightSoundness, SoundnessCount};
 pub use error::{Code, Error, Part};
-pub use expr::{Expr, MOST_DEPTH, MOST_NODES};
-pub use lookup::{Branch, Count, Lookup, Message};
+pub use expr::{MOST_DEPTH, MOST_NODES};
+pub use field::{BabyBear, Field, KoalaBear};
 pub use symbolic::{Shape, Symbolic, Term};
 pub use traces::{Trace, Traces};
-pub use witness::{AirWitness, Witness};
+
+/// The types over any [`Field`], for code that is generic over it.
+///
+/// ```
+/// use volgwain::generic::{Air, Expr, Lookup, Message};
+/// use volgwain::{BabyBear, Error, Field, KoalaBear};
+///
+/// /// Each row looks its key up once.
+/// fn keys<F: Field>() -> Result<Air<F>, Error> {
+///     Air::new([Lookup::on_bus("keys", [Message::query([Expr::main(0)], 1)])])
+/// }
+///
+/// assert_eq!(keys::<BabyBear>().unwrap().degrees(), Ok(vec![2]));
+/// assert_eq!(keys::<KoalaBear>().unwrap().degrees(), Ok(vec![2]));
+/// ```
+pub mod generic {
+    pub use crate::air::Air;
+    pub use crate::batch::Batch;
+    pub use crate::element::Element;
+    pub use crate::expr::Expr;
+    pub use crate::lookup::{Branch, Count, Lookup, Message};
+    pub use crate::witness::{AirWitness, Witness};
+}
+
+/// Names the types over a field.
+macro_rules! types_over {
+    ($field:ident) => {
+        types_over! { $field: Air, Batch, Branch, Count, Element, Expr, Lookup, Message, Witness }
+
+        #[doc = concat!("[`generic::AirWitness`] over [`", stringify!($field), "`].")]
+        pub type AirWitness<'a> = generic::AirWitness<'a, $field>;
+
+        #[doc = concat!("The characteristic of [`", stringify!($field), "`].")]
+        pub const MODULUS: u32 = <$field as Field>::MODULUS;
+    };
+    ($field:ident: $($name:ident),*) => {
+        $(
+            #[doc = concat!("[`generic::", stringify!($name), "`] over [`", stringify!($field), "`].")]
+            pub type $name = generic::$name<$field>;
+        )*
+    };
+}
+
+types_over!(BabyBear);
+
+/// The names of this crate over [`KoalaBear`].
+///
+/// ```
+/// use volgwain::koala_bear::{Air, Batch, Element, Expr, Lookup, Message, Traces};
+///
+/// # fn main() -> Result<(), volgwain::Error> {
+/// let messages = [Message::query([Expr::main(0)], 1), Message::provide([Expr::main(1)], 1)];
+/// let shuffle = Air::new([Lookup::local(messages)])?;
+/// let batch = Batch::new([(&shuffle, 2)])?;
+/// let traces = [Traces::new(&[3, 2_130_706_432, 2_130_706_432, 3], 2)];
+/// let (alpha, beta) = (Element::new([9, 2, 6, 5]), Element::new([3, 1, 4, 15]));
+/// let witness = batch.prove(&traces, alpha, beta)?;
+/// batch.verify(&traces, alpha, beta, &witness)?;
+/// # Ok(())
+/// # }
+/// ```
+///
+/// Two fields do not meet in one batch, since their types differ:
+///
+/// ```compile_fail,E0308
+/// use volgwain::{Air, koala_bear};
+///
+/// let air = Air::new([]).unwrap();
+/// let batch = koala_bear::Batch::new([(&air, 1)]);
+/// ```
+pub mod koala_bear {
+    use crate::{Field, KoalaBear, generic};
+
+    pub use crate::{
+        Code, Error, GridCount, HeightSoundness, MOST_DEPTH, MOST_NODES, Part, Shape,
+        SoundnessCount, Symbolic, Term, Trace, Traces, debug_check,
+    };
+
+    types_over!(KoalaBear);
+}

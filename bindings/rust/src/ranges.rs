@@ -4,8 +4,9 @@
 //! and the sums of the ranges before it are added afterwards. What a range refuses is left to the call on
 //! the whole batch, which says why: so no answer depends on the number of threads, but where memory runs out.
 
-use crate::element::{Element, MODULUS};
+use crate::element::Element;
 use crate::ffi::{self, PlannedIds, Rows, Terminal};
+use crate::field::Field;
 use crate::traces::{Trace, Traces};
 use crate::witness::{AirWitness, AuxiliaryShape, Witness};
 use std::iter::zip;
@@ -36,12 +37,12 @@ fn threads_for(cells: usize, most: Option<usize>) -> usize {
 
 /// An AIR of a planned batch, with its traces.
 #[derive(Clone, Copy)]
-pub(crate) struct TracedAir<'a> {
-    pub(crate) planned: PlannedIds<'a>,
+pub(crate) struct TracedAir<'a, F> {
+    pub(crate) planned: PlannedIds<'a, F>,
     pub(crate) traces: Traces<'a>,
 }
 
-impl TracedAir<'_> {
+impl<F: Field> TracedAir<'_, F> {
     /// The shape of the auxiliary trace.
     fn shape(&self) -> AuxiliaryShape {
         AuxiliaryShape::of(self.planned.tables, self.traces.main.height())
@@ -58,7 +59,7 @@ impl TracedAir<'_> {
         };
         let other = preprocessed.unwrap_or_default();
         let is_missing = other.width == 0 && other.cells.is_empty();
-        let are_small = |numbers: &[u32]| numbers.iter().all(|number| *number < MODULUS);
+        let are_small = |numbers: &[u32]| numbers.iter().all(|number| *number < F::MODULUS);
         is_whole(main)
             && (is_missing || is_whole(other))
             && if lookups == 0 {
@@ -69,7 +70,7 @@ impl TracedAir<'_> {
     }
 
     /// Whether what a witness has for the AIR is of its shape.
-    fn has_shape(&self, part: &AirWitness<'_>) -> bool {
+    fn has_shape(&self, part: &AirWitness<'_, F>) -> bool {
         let shape = self.shape();
         part.width == shape.width()
             && Some(part.auxiliary.len()) == shape.cells()
@@ -85,18 +86,18 @@ struct AirRows {
 }
 
 /// The work on some AIRs, cut into ranges of rows.
-pub(crate) struct SharedWork<'a> {
-    airs: Vec<TracedAir<'a>>,
+pub(crate) struct SharedWork<'a, F> {
+    airs: Vec<TracedAir<'a, F>>,
     ranges: Vec<AirRows>,
-    challenges: [Element; 2],
+    challenges: [Element<F>; 2],
     threads: usize,
 }
 
-impl<'a> SharedWork<'a> {
+impl<'a, F: Field> SharedWork<'a, F> {
     /// The work on these AIRs, on so many threads at most, if it can be cut and is worth more than one.
     pub(crate) fn of(
-        airs: impl Iterator<Item = TracedAir<'a>> + Clone,
-        challenges: [Element; 2],
+        airs: impl Iterator<Item = TracedAir<'a, F>> + Clone,
+        challenges: [Element<F>; 2],
         most_threads: Option<usize>,
     ) -> Option<Self> {
         let cells = airs.clone().map(|air| air.shape().cells().unwrap_or(usize::MAX));
@@ -104,7 +105,7 @@ impl<'a> SharedWork<'a> {
         if threads == 1 || !airs.clone().all(|air| air.is_plain()) {
             return None;
         }
-        let airs: Vec<TracedAir<'a>> = airs.collect();
+        let airs: Vec<TracedAir<'a, F>> = airs.collect();
         let shapes = airs.iter().map(TracedAir::shape).enumerate();
         let with_lookups = shapes.filter(|(_, shape)| shape.lookups > 0);
         let ranges = with_lookups.flat_map(|(air, shape)| ranges_of(air, shape.height)).collect();
@@ -113,7 +114,7 @@ impl<'a> SharedWork<'a> {
 
     /// Makes the auxiliary traces of all AIRs, one after the other, and their terminals, unless a range is
     /// refused. What is written then has no meaning.
-    pub(crate) fn prove(&self, cells: &mut [Element], terminals: &mut [Terminal]) -> bool {
+    pub(crate) fn prove(&self, cells: &mut [Element<F>], terminals: &mut [Terminal<F>]) -> bool {
         let mut sums = vec![Element::default(); self.ranges.len()];
         let work = zip(self.share_out(cells), &mut sums).collect();
         let made = self.on_threads(work, |room, ((AirRows { air, rows }, cells), sum)| {
@@ -128,9 +129,9 @@ impl<'a> SharedWork<'a> {
     /// the terminal. Sums are those of the library: each is one cell that is shifted.
     fn join(
         &self,
-        sums: &[Element],
-        cells: &mut [Element],
-        terminals: &mut [Terminal],
+        sums: &[Element<F>],
+        cells: &mut [Element<F>],
+        terminals: &mut [Terminal<F>],
     ) -> Option<()> {
         let mut totals = vec![None; self.airs.len()];
         let mut later = Vec::with_capacity(sums.len());
@@ -151,8 +152,8 @@ impl<'a> SharedWork<'a> {
     }
 
     /// Whether a witness is of the right shape, its terminals sum to zero, and each range is accepted.
-    pub(crate) fn verify(&self, witness: &Witness) -> bool {
-        let parts: Vec<AirWitness<'_>> = witness.airs().collect();
+    pub(crate) fn verify(&self, witness: &Witness<F>) -> bool {
+        let parts: Vec<AirWitness<'_, F>> = witness.airs().collect();
         if parts.len() != self.airs.len()
             || !zip(&self.airs, &parts).all(|(air, part)| air.has_shape(part))
             || !sum_to_zero(parts.iter().filter_map(|part| part.terminal))
@@ -170,7 +171,7 @@ impl<'a> SharedWork<'a> {
     }
 
     /// The cells of each range, in those of all AIRs.
-    fn share_out<'c>(&self, cells: &'c mut [Element]) -> Vec<(AirRows, &'c mut [Element])> {
+    fn share_out<'c>(&self, cells: &'c mut [Element<F>]) -> Vec<(AirRows, &'c mut [Element<F>])> {
         let mut rest = cells;
         let share = |range: &AirRows| {
             let length = (range.rows.end - range.rows.first) * self.airs[range.air].shape().width();
@@ -186,7 +187,7 @@ impl<'a> SharedWork<'a> {
     fn on_threads<T: Send>(
         &self,
         items: Vec<T>,
-        work: impl Fn(&mut Room, T) -> Option<()> + Sync,
+        work: impl Fn(&mut Room<F>, T) -> Option<()> + Sync,
     ) -> bool {
         let threads = self.threads.min(items.len());
         let items = Mutex::new(items.into_iter());
@@ -221,7 +222,7 @@ fn ranges_of(air: usize, height: usize) -> impl Iterator<Item = AirRows> {
 }
 
 /// Whether elements sum to zero. One that is no element does not.
-fn sum_to_zero(terminals: impl Iterator<Item = Element>) -> bool {
+fn sum_to_zero<F: Field>(terminals: impl Iterator<Item = Element<F>>) -> bool {
     let mut sum = Element::default();
     for terminal in terminals {
         if ffi::shift(slice::from_mut(&mut sum), 1, &terminal).is_err() {
@@ -234,9 +235,9 @@ fn sum_to_zero(terminals: impl Iterator<Item = Element>) -> bool {
 /// Where a thread copies the rows around its ranges: of the main and the preprocessed trace, and of the
 /// auxiliary trace.
 #[derive(Default)]
-struct Room {
+struct Room<F> {
     traces: [Vec<u32>; 2],
-    auxiliary: Vec<Element>,
+    auxiliary: Vec<Element<F>>,
 }
 
 /// The traces of the rows around a range. `None` if memory runs out.
@@ -280,7 +281,7 @@ fn cells_around<'r, T: Copy>(
 mod tests {
     use super::*;
     use crate::ffi::PlanSizes;
-    use crate::{Air, Batch, Expr, Lookup, Message};
+    use crate::{Air, AirWitness, BabyBear, Batch, Element, Expr, Lookup, Message, Witness};
     use std::iter;
     use std::sync::atomic::AtomicUsize;
 
@@ -331,7 +332,7 @@ mod tests {
         let work =
             SharedWork { airs: vec![], ranges: vec![], challenges: [0.into(); 2], threads: 3 };
         let sum = AtomicUsize::new(0);
-        let add = |_: &mut Room, number| {
+        let add = |_: &mut Room<BabyBear>, number| {
             sum.fetch_add(number, Ordering::Relaxed);
             (number != 1000).then_some(())
         };

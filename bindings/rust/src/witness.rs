@@ -3,22 +3,23 @@
 use crate::element::Element;
 use crate::error::Error;
 use crate::ffi::Terminal;
+use crate::field::Field;
 use crate::tables::Tables;
 use std::ops::Range;
 
 /// What a witness has for one AIR.
 #[derive(Clone, Copy, Debug, PartialEq, Eq)]
-pub struct AirWitness<'a> {
+pub struct AirWitness<'a, F> {
     /// The cells of the auxiliary trace, row after row: the accumulator, and then the fraction of
     /// each lookup. An AIR without lookups has none.
-    pub auxiliary: &'a [Element],
+    pub auxiliary: &'a [Element<F>],
     /// How many cells make a row: one more than there are lookups, and 0 without lookups.
     pub width: usize,
     /// The sum of all fractions. An AIR without lookups has none.
-    pub terminal: Option<Element>,
+    pub terminal: Option<Element<F>>,
 }
 
-impl AirWitness<'_> {
+impl<F: Field> AirWitness<'_, F> {
     /// How many whole rows the auxiliary trace has.
     pub fn height(&self) -> usize {
         self.auxiliary.len().checked_div(self.width).unwrap_or(0)
@@ -27,23 +28,23 @@ impl AirWitness<'_> {
 
 /// The auxiliary traces and the terminals of a batch, AIR by AIR.
 #[derive(Clone, Debug, Default, PartialEq, Eq)]
-pub struct Witness {
-    cells: Vec<Element>,
-    airs: Vec<Share>,
+pub struct Witness<F> {
+    cells: Vec<Element<F>>,
+    airs: Vec<Share<F>>,
 }
 
 /// The part of one AIR.
 #[derive(Clone, Debug, PartialEq, Eq)]
-struct Share {
+struct Share<F> {
     cells: Range<usize>,
     width: usize,
-    terminal: Option<Element>,
+    terminal: Option<Element<F>>,
 }
 
-impl Witness {
+impl<F: Field> Witness<F> {
     /// The witness with these parts, whatever they are. [`Batch::verify`](crate::Batch::verify)
     /// tells whether it is accepted.
-    pub fn new<'a>(airs: impl IntoIterator<Item = AirWitness<'a>>) -> Self {
+    pub fn new<'a>(airs: impl IntoIterator<Item = AirWitness<'a, F>>) -> Self {
         let mut witness = Witness::default();
         for air in airs {
             let start = witness.cells.len();
@@ -65,12 +66,12 @@ impl Witness {
     }
 
     /// What it has for the AIR of this index, or `None` past the last one.
-    pub fn air(&self, index: usize) -> Option<AirWitness<'_>> {
+    pub fn air(&self, index: usize) -> Option<AirWitness<'_, F>> {
         self.airs.get(index).map(|share| share.of(&self.cells))
     }
 
     /// What it has for each AIR.
-    pub fn airs(&self) -> impl ExactSizeIterator<Item = AirWitness<'_>> {
+    pub fn airs(&self) -> impl ExactSizeIterator<Item = AirWitness<'_, F>> {
         self.airs.iter().map(|share| share.of(&self.cells))
     }
 
@@ -82,7 +83,7 @@ impl Witness {
     pub(crate) fn refill(
         &mut self,
         shapes: &[AuxiliaryShape],
-        fill: impl FnOnce(&mut [Element], &mut [Terminal]) -> Result<(), Error>,
+        fill: impl FnOnce(&mut [Element<F>], &mut [Terminal<F>]) -> Result<(), Error>,
     ) -> Result<(), Error> {
         self.airs.clear();
         let filled = self.share_out(shapes).and_then(|()| {
@@ -120,8 +121,8 @@ impl Witness {
     }
 }
 
-impl Share {
-    fn of<'a>(&self, cells: &'a [Element]) -> AirWitness<'a> {
+impl<F: Field> Share<F> {
+    fn of<'a>(&self, cells: &'a [Element<F>]) -> AirWitness<'a, F> {
         let auxiliary = &cells[self.cells.clone()];
         AirWitness { auxiliary, width: self.width, terminal: self.terminal }
     }
@@ -136,7 +137,7 @@ pub(crate) struct AuxiliaryShape {
 
 impl AuxiliaryShape {
     /// The shape for the lookups of these tables, over traces of this height.
-    pub(crate) fn of(tables: &Tables, height: usize) -> Self {
+    pub(crate) fn of<F>(tables: &Tables<F>, height: usize) -> Self {
         AuxiliaryShape { height, lookups: tables.records.len() }
     }
 

@@ -1,12 +1,14 @@
 //! A safe function for each call of the library. The one unsafe block of each meets what the header
 //! asks for, as the module above says.
 
+use super::abi;
 use super::declared::{
     self, Counts, Grid, HeightCounts, PlanSizes, Refusal, Rows, TableSizes, Terminal, Wide,
 };
 use crate::batch::{GridCount, HeightSoundness, SoundnessCount};
 use crate::element::Element;
 use crate::error::Error;
+use crate::field::Field;
 use crate::tables::{Room, Tables};
 use crate::traces::{Trace, Traces};
 use crate::witness::AirWitness;
@@ -17,18 +19,18 @@ const TEXT_SIZE: usize = 256;
 
 /// An AIR of a batch: its lookups, and the height of its traces.
 #[derive(Clone, Copy)]
-pub(crate) struct Planned<'a> {
-    pub(crate) tables: &'a Tables,
+pub(crate) struct Planned<'a, F> {
+    pub(crate) tables: &'a Tables<F>,
     pub(crate) height: usize,
 }
 
 /// Generates the auxiliary trace and the terminal of one AIR.
-pub(crate) fn generate(
-    tables: &Tables,
+pub(crate) fn generate<F: Field>(
+    tables: &Tables<F>,
     traces: &Traces<'_>,
-    challenges: &[[Element; 2]],
-    auxiliary: &mut [Element],
-    terminal: &mut Terminal,
+    challenges: &[[Element<F>; 2]],
+    auxiliary: &mut [Element<F>],
+    terminal: &mut Terminal<F>,
 ) -> Result<(), Error> {
     let (tables, traces) = (raw_tables(tables), raw_traces(traces));
     let challenges = challenges.as_flattened();
@@ -36,7 +38,7 @@ pub(crate) fn generate(
         // SAFETY: `tables`, `traces` and `challenges` are borrowed for the whole call, and
         // `auxiliary` and `terminal` as mutable; each length is that of its slice.
         unsafe {
-            declared::volgwain_generate(
+            (F::CALLS.generate)(
                 &tables,
                 &traces,
                 challenges.as_ptr(),
@@ -53,32 +55,25 @@ pub(crate) fn generate(
 }
 
 /// Gives the degree of each lookup's constraint.
-pub(crate) fn degrees(tables: &Tables, degrees: &mut [usize]) -> Result<(), Error> {
+pub(crate) fn degrees<F: Field>(tables: &Tables<F>, degrees: &mut [usize]) -> Result<(), Error> {
     let tables = raw_tables(tables);
     answer(|refusal, text, size| {
         // SAFETY: `tables` is borrowed for the whole call, and `degrees`, whose length is given, as
         // mutable.
         unsafe {
-            declared::volgwain_degrees(
-                &tables,
-                degrees.as_mut_ptr(),
-                degrees.len(),
-                refusal,
-                text,
-                size,
-            )
+            (F::CALLS.degrees)(&tables, degrees.as_mut_ptr(), degrees.len(), refusal, text, size)
         }
     })
 }
 
 /// Packs the lookups of an AIR.
-pub(crate) fn pack(tables: &Tables, max_degree: usize) -> Result<Tables, Error> {
+pub(crate) fn pack<F: Field>(tables: &Tables<F>, max_degree: usize) -> Result<Tables<F>, Error> {
     let raw = raw_tables(tables);
     written(Room::of(tables), |out, sizes, refusal, text, size| {
         // SAFETY: `tables`, to which `raw` points, is borrowed for the whole call, and `out` and
         // `sizes` as mutable; each length is that of its table.
         unsafe {
-            declared::volgwain_pack(
+            (F::CALLS.pack)(
                 &raw,
                 max_degree,
                 out.nodes.as_mut_ptr(),
@@ -99,12 +94,12 @@ pub(crate) fn pack(tables: &Tables, max_degree: usize) -> Result<Tables, Error> 
 }
 
 /// Reads the lookups of an AIR from JSON.
-pub(crate) fn read_json(json: &str) -> Result<Tables, Error> {
+pub(crate) fn read_json<F: Field>(json: &str) -> Result<Tables<F>, Error> {
     written(Room::of_json(json), |out, sizes, refusal, text, size| {
         // SAFETY: `json` is borrowed for the whole call, and `out` and `sizes` as mutable; each
         // length is that of its table, and that of `json` in bytes.
         unsafe {
-            declared::volgwain_read_json(
+            (F::CALLS.read_json)(
                 json.as_ptr().cast::<c_char>(),
                 json.len(),
                 out.nodes.as_mut_ptr(),
@@ -125,14 +120,17 @@ pub(crate) fn read_json(json: &str) -> Result<Tables, Error> {
 }
 
 /// Gives the id of each lookup, AIR by AIR, and the sizes of the plan.
-pub(crate) fn plan(airs: &[Planned<'_>], ids: &mut [usize]) -> Result<PlanSizes, Error> {
+pub(crate) fn plan<F: Field>(
+    airs: &[Planned<'_, F>],
+    ids: &mut [usize],
+) -> Result<PlanSizes, Error> {
     let airs = raw_airs(airs);
     let mut sizes = PlanSizes::default();
     answer(|refusal, text, size| {
         // SAFETY: the tables to which `airs` points are borrowed for the whole call, and `ids` and
         // `sizes` as mutable; each length is that of its slice.
         unsafe {
-            declared::volgwain_plan(
+            (F::CALLS.plan)(
                 airs.as_ptr(),
                 airs.len(),
                 ids.as_mut_ptr(),
@@ -149,19 +147,19 @@ pub(crate) fn plan(airs: &[Planned<'_>], ids: &mut [usize]) -> Result<PlanSizes,
 
 /// An AIR of a batch with what the plan says of it: the ids of its lookups, and the sizes.
 #[derive(Clone, Copy)]
-pub(crate) struct PlannedIds<'a> {
-    pub(crate) tables: &'a Tables,
+pub(crate) struct PlannedIds<'a, F> {
+    pub(crate) tables: &'a Tables<F>,
     pub(crate) ids: &'a [usize],
     pub(crate) sizes: &'a PlanSizes,
 }
 
 /// Generates the auxiliary trace and the terminal of one AIR of a planned batch.
-pub(crate) fn generate_by_ids(
-    planned: &PlannedIds<'_>,
+pub(crate) fn generate_by_ids<F: Field>(
+    planned: &PlannedIds<'_, F>,
     traces: &Traces<'_>,
-    [alpha, beta]: [Element; 2],
-    auxiliary: &mut [Element],
-    terminal: &mut Terminal,
+    [alpha, beta]: [Element<F>; 2],
+    auxiliary: &mut [Element<F>],
+    terminal: &mut Terminal<F>,
 ) -> Result<(), Error> {
     let PlannedIds { tables, ids, sizes } = planned;
     let (tables, traces) = (raw_tables(tables), raw_traces(traces));
@@ -169,7 +167,7 @@ pub(crate) fn generate_by_ids(
         // SAFETY: `tables`, `traces`, `ids`, the sizes, alpha and beta are borrowed for the whole
         // call, and `auxiliary` and `terminal` as mutable; each length is that of its slice.
         unsafe {
-            declared::volgwain_generate_by_ids(
+            (F::CALLS.generate_by_ids)(
                 &tables,
                 &traces,
                 ids.as_ptr(),
@@ -189,20 +187,20 @@ pub(crate) fn generate_by_ids(
 }
 
 /// Makes the witness of a batch.
-pub(crate) fn prove(
-    airs: &[Planned<'_>],
+pub(crate) fn prove<F: Field>(
+    airs: &[Planned<'_, F>],
     traces: &[Traces<'_>],
-    alpha: Element,
-    beta: Element,
-    auxiliary: &mut [Element],
-    terminals: &mut [Terminal],
+    alpha: Element<F>,
+    beta: Element<F>,
+    auxiliary: &mut [Element<F>],
+    terminals: &mut [Terminal<F>],
 ) -> Result<(), Error> {
     let (airs, traces) = (raw_airs(airs), all_raw_traces(traces));
     answer(|refusal, text, size| {
         // SAFETY: what `airs` and `traces` point to, alpha and beta are borrowed for the whole
         // call, and `auxiliary` and `terminals` as mutable; each length is that of its slice.
         unsafe {
-            declared::volgwain_prove(
+            (F::CALLS.prove)(
                 airs.as_ptr(),
                 airs.len(),
                 traces.as_ptr(),
@@ -222,20 +220,20 @@ pub(crate) fn prove(
 }
 
 /// Whether a witness is accepted.
-pub(crate) fn verify(
-    airs: &[Planned<'_>],
+pub(crate) fn verify<F: Field>(
+    airs: &[Planned<'_, F>],
     traces: &[Traces<'_>],
-    alpha: Element,
-    beta: Element,
-    witness: &[AirWitness<'_>],
+    alpha: Element<F>,
+    beta: Element<F>,
+    witness: &[AirWitness<'_, F>],
 ) -> Result<(), Error> {
     let (airs, traces) = (raw_airs(airs), all_raw_traces(traces));
-    let witness: Vec<declared::AirWitness> = witness.iter().map(raw_witness).collect();
+    let witness: Vec<declared::AirWitness<F>> = witness.iter().map(raw_witness).collect();
     answer(|refusal, text, size| {
         // SAFETY: what `airs`, `traces` and `witness` point to, alpha and beta are borrowed for the
         // whole call; each length is that of its slice. It writes the refusal and its text alone.
         unsafe {
-            declared::volgwain_verify(
+            (F::CALLS.verify)(
                 airs.as_ptr(),
                 airs.len(),
                 traces.as_ptr(),
@@ -253,8 +251,8 @@ pub(crate) fn verify(
 }
 
 /// Counts distinct and unbalanced messages, and bounds the challenges that accept.
-pub(crate) fn soundness_count(
-    airs: &[Planned<'_>],
+pub(crate) fn soundness_count<F: Field>(
+    airs: &[Planned<'_, F>],
     traces: &[Traces<'_>],
 ) -> Result<SoundnessCount, Error> {
     let (airs, traces) = (raw_airs(airs), all_raw_traces(traces));
@@ -263,7 +261,7 @@ pub(crate) fn soundness_count(
         // SAFETY: what `airs` and `traces` point to is borrowed for the whole call, and `counts` as
         // mutable; each length is that of its slice.
         unsafe {
-            declared::volgwain_soundness_count(
+            (F::CALLS.soundness_count)(
                 airs.as_ptr(),
                 airs.len(),
                 traces.as_ptr(),
@@ -285,14 +283,16 @@ pub(crate) fn soundness_count(
 }
 
 /// Counts the most messages, and bounds the challenges that accept, by heights alone.
-pub(crate) fn soundness_of_heights(airs: &[Planned<'_>]) -> Result<HeightSoundness, Error> {
+pub(crate) fn soundness_of_heights<F: Field>(
+    airs: &[Planned<'_, F>],
+) -> Result<HeightSoundness, Error> {
     let airs = raw_airs(airs);
     let mut counts = HeightCounts::default();
     answer(|refusal, text, size| {
         // SAFETY: the tables to which `airs` points are borrowed for the whole call, and `counts`
         // as mutable; the length is that of the slice.
         unsafe {
-            declared::volgwain_soundness_of_heights(
+            (F::CALLS.soundness_of_heights)(
                 airs.as_ptr(),
                 airs.len(),
                 &mut counts,
@@ -310,11 +310,11 @@ pub(crate) fn soundness_of_heights(airs: &[Planned<'_>]) -> Result<HeightSoundne
 }
 
 /// Counts at how many pairs of challenges some witness is accepted.
-pub(crate) fn grid_count(
-    airs: &[Planned<'_>],
+pub(crate) fn grid_count<F: Field>(
+    airs: &[Planned<'_, F>],
     traces: &[Traces<'_>],
-    alphas: &[Element],
-    betas: &[Element],
+    alphas: &[Element<F>],
+    betas: &[Element<F>],
 ) -> Result<GridCount, Error> {
     let (airs, traces) = (raw_airs(airs), all_raw_traces(traces));
     let mut grid = Grid::default();
@@ -322,7 +322,7 @@ pub(crate) fn grid_count(
         // SAFETY: what `airs` and `traces` point to, `alphas` and `betas` are borrowed for the
         // whole call, and `grid` as mutable; each length is that of its slice.
         unsafe {
-            declared::volgwain_grid_count(
+            (F::CALLS.grid_count)(
                 airs.as_ptr(),
                 airs.len(),
                 traces.as_ptr(),
@@ -343,14 +343,17 @@ pub(crate) fn grid_count(
 }
 
 /// Whether all tuples balance.
-pub(crate) fn debug_check(airs: &[&Tables], traces: &[Traces<'_>]) -> Result<(), Error> {
+pub(crate) fn debug_check<F: Field>(
+    airs: &[&Tables<F>],
+    traces: &[Traces<'_>],
+) -> Result<(), Error> {
     let airs: Vec<declared::Tables> = airs.iter().copied().map(raw_tables).collect();
     let traces = all_raw_traces(traces);
     answer(|refusal, text, size| {
         // SAFETY: what `airs` and `traces` point to is borrowed for the whole call; each length is
         // that of its slice. It writes the refusal and its text alone.
         unsafe {
-            declared::volgwain_debug_check(
+            (F::CALLS.debug_check)(
                 airs.as_ptr(),
                 airs.len(),
                 traces.as_ptr(),
@@ -365,13 +368,13 @@ pub(crate) fn debug_check(airs: &[&Tables], traces: &[Traces<'_>]) -> Result<(),
 
 /// Generates some rows of the auxiliary trace of one AIR of a planned batch, with accumulators that start
 /// at zero, and the sum of the fractions on them. The traces have the rows around these alone.
-pub(crate) fn generate_rows(
-    planned: &PlannedIds<'_>,
+pub(crate) fn generate_rows<F: Field>(
+    planned: &PlannedIds<'_, F>,
     around: &Traces<'_>,
     rows: &Rows,
-    [alpha, beta]: [Element; 2],
-    auxiliary: &mut [Element],
-    sum: &mut Element,
+    [alpha, beta]: [Element<F>; 2],
+    auxiliary: &mut [Element<F>],
+    sum: &mut Element<F>,
 ) -> Result<(), Error> {
     let PlannedIds { tables, ids, sizes } = planned;
     let (tables, around) = (raw_tables(tables), raw_traces(around));
@@ -379,7 +382,7 @@ pub(crate) fn generate_rows(
         // SAFETY: `tables`, `around`, the rows, `ids`, the sizes, alpha and beta are borrowed for
         // the whole call, and `auxiliary` and `sum` as mutable; each length is that of its slice.
         unsafe {
-            declared::volgwain_generate_rows(
+            (F::CALLS.generate_rows)(
                 &tables,
                 &around,
                 rows,
@@ -400,32 +403,28 @@ pub(crate) fn generate_rows(
 }
 
 /// Adds an element to the first cell of each row.
-pub(crate) fn shift(cells: &mut [Element], width: usize, offset: &Element) -> Result<(), Error> {
+pub(crate) fn shift<F: Field>(
+    cells: &mut [Element<F>],
+    width: usize,
+    offset: &Element<F>,
+) -> Result<(), Error> {
     answer(|refusal, text, size| {
         // SAFETY: `offset` is borrowed for the whole call, and `cells`, whose length is given, as
         // mutable.
         unsafe {
-            declared::volgwain_shift(
-                cells.as_mut_ptr(),
-                cells.len(),
-                width,
-                offset,
-                refusal,
-                text,
-                size,
-            )
+            (F::CALLS.shift)(cells.as_mut_ptr(), cells.len(), width, offset, refusal, text, size)
         }
     })
 }
 
 /// Whether every constraint of one AIR of a planned batch holds on some rows. The traces, and the auxiliary
 /// trace of the witness, have the rows around these alone.
-pub(crate) fn verify_rows(
-    planned: &PlannedIds<'_>,
+pub(crate) fn verify_rows<F: Field>(
+    planned: &PlannedIds<'_, F>,
     around: &Traces<'_>,
     rows: &Rows,
-    [alpha, beta]: [Element; 2],
-    witness: &AirWitness<'_>,
+    [alpha, beta]: [Element<F>; 2],
+    witness: &AirWitness<'_, F>,
 ) -> Result<(), Error> {
     let PlannedIds { tables, ids, sizes } = planned;
     let (tables, around, witness) = (raw_tables(tables), raw_traces(around), raw_witness(witness));
@@ -434,7 +433,7 @@ pub(crate) fn verify_rows(
         // points to are borrowed for the whole call; each length is that of its slice. It writes the
         // refusal and its text alone.
         unsafe {
-            declared::volgwain_verify_rows(
+            (F::CALLS.verify_rows)(
                 &tables,
                 &around,
                 rows,
@@ -458,6 +457,7 @@ pub(crate) fn verify_rows(
 /// A refused call changes nothing else. So where the text is longer than the room, the call is made
 /// again.
 fn answer(mut call: impl FnMut(&mut Refusal, *mut c_char, usize) -> u32) -> Result<(), Error> {
+    abi::ask();
     let mut refusal = Refusal::default();
     let mut text = vec![0u8; TEXT_SIZE];
     let mut code = call(&mut refusal, text.as_mut_ptr().cast(), text.len());
@@ -474,10 +474,10 @@ fn answer(mut call: impl FnMut(&mut Refusal, *mut c_char, usize) -> u32) -> Resu
 
 /// Makes a call that writes tables, into so much room. Where a table is too short, it gets the
 /// length that the call asks for, and the call is made again.
-fn written(
+fn written<F: Field>(
     mut room: Room,
-    mut call: impl FnMut(&mut Tables, &mut TableSizes, &mut Refusal, *mut c_char, usize) -> u32,
-) -> Result<Tables, Error> {
+    mut call: impl FnMut(&mut Tables<F>, &mut TableSizes, &mut Refusal, *mut c_char, usize) -> u32,
+) -> Result<Tables<F>, Error> {
     loop {
         let mut tables = Tables::empty(room);
         let mut sizes = TableSizes::default();
@@ -496,7 +496,7 @@ fn written(
     }
 }
 
-fn raw_tables(tables: &Tables) -> declared::Tables {
+fn raw_tables<F: Field>(tables: &Tables<F>) -> declared::Tables {
     declared::Tables {
         nodes: tables.nodes.as_ptr(),
         nodes_length: tables.nodes.len(),
@@ -509,9 +509,9 @@ fn raw_tables(tables: &Tables) -> declared::Tables {
     }
 }
 
-fn raw_airs(airs: &[Planned<'_>]) -> Vec<declared::Air> {
+fn raw_airs<F: Field>(airs: &[Planned<'_, F>]) -> Vec<declared::Air> {
     let raw =
-        |air: &Planned<'_>| declared::Air { tables: raw_tables(air.tables), height: air.height };
+        |air: &Planned<'_, F>| declared::Air { tables: raw_tables(air.tables), height: air.height };
     airs.iter().map(raw).collect()
 }
 
@@ -533,7 +533,7 @@ fn all_raw_traces(traces: &[Traces<'_>]) -> Vec<declared::Traces> {
     traces.iter().map(raw_traces).collect()
 }
 
-fn raw_witness(air: &AirWitness<'_>) -> declared::AirWitness {
+fn raw_witness<F: Field>(air: &AirWitness<'_, F>) -> declared::AirWitness<F> {
     declared::AirWitness {
         auxiliary: air.auxiliary.as_ptr(),
         auxiliary_length: air.auxiliary.len(),
@@ -546,13 +546,13 @@ fn number(wide: Wide) -> u128 {
     u128::from(wide.high) << 64 | u128::from(wide.low)
 }
 
-impl Terminal {
-    pub(crate) fn of(terminal: Option<Element>) -> Self {
+impl<F: Field> Terminal<F> {
+    pub(crate) fn of(terminal: Option<Element<F>>) -> Self {
         Terminal { present: u32::from(terminal.is_some()), value: terminal.unwrap_or_default() }
     }
 
     /// The terminal, if it is present.
-    pub(crate) fn element(self) -> Option<Element> {
+    pub(crate) fn element(self) -> Option<Element<F>> {
         (self.present != 0).then_some(self.value)
     }
 }

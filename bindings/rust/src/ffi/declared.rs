@@ -1,7 +1,6 @@
-//! The structs and functions of the header, in its order.
+//! The structs of the header, in its order.
 
 use crate::element::Element;
-use std::ffi::c_char;
 use std::ops::Range;
 
 /// Kinds of nodes.
@@ -97,9 +96,9 @@ pub(super) struct Traces {
 /// The terminal of an AIR.
 #[derive(Clone, Copy, Debug, Default)]
 #[repr(C)]
-pub(crate) struct Terminal {
+pub(crate) struct Terminal<F> {
     pub(super) present: u32,
-    pub(super) value: Element,
+    pub(super) value: Element<F>,
 }
 
 /// What was refused, and where.
@@ -137,11 +136,11 @@ pub(super) struct Air {
 /// What a witness has for one AIR.
 #[derive(Clone, Copy)]
 #[repr(C)]
-pub(super) struct AirWitness {
-    pub(super) auxiliary: *const Element,
+pub(super) struct AirWitness<F> {
+    pub(super) auxiliary: *const Element<F>,
     pub(super) auxiliary_length: usize,
     pub(super) width: usize,
-    pub(super) terminal: Terminal,
+    pub(super) terminal: Terminal<F>,
 }
 
 /// The sizes of a plan.
@@ -198,206 +197,4 @@ pub(crate) struct Rows {
     pub(crate) first: usize,
     pub(crate) end: usize,
     pub(crate) height: usize,
-}
-
-unsafe extern "C" {
-    pub(super) fn volgwain_generate(
-        tables: *const Tables,
-        traces: *const Traces,
-        challenges: *const Element,
-        challenges_length: usize,
-        auxiliary: *mut Element,
-        auxiliary_length: usize,
-        terminal: *mut Terminal,
-        refusal: *mut Refusal,
-        text: *mut c_char,
-        text_size: usize,
-    ) -> u32;
-
-    pub(super) fn volgwain_degrees(
-        tables: *const Tables,
-        degrees: *mut usize,
-        degrees_length: usize,
-        refusal: *mut Refusal,
-        text: *mut c_char,
-        text_size: usize,
-    ) -> u32;
-
-    pub(super) fn volgwain_pack(
-        tables: *const Tables,
-        max_degree: usize,
-        nodes: *mut Node,
-        nodes_length: usize,
-        tuples: *mut Span,
-        tuples_length: usize,
-        names: *mut u8,
-        names_length: usize,
-        records: *mut Record,
-        records_length: usize,
-        sizes: *mut TableSizes,
-        refusal: *mut Refusal,
-        text: *mut c_char,
-        text_size: usize,
-    ) -> u32;
-
-    pub(super) fn volgwain_read_json(
-        json: *const c_char,
-        json_length: usize,
-        nodes: *mut Node,
-        nodes_length: usize,
-        tuples: *mut Span,
-        tuples_length: usize,
-        names: *mut u8,
-        names_length: usize,
-        records: *mut Record,
-        records_length: usize,
-        sizes: *mut TableSizes,
-        refusal: *mut Refusal,
-        text: *mut c_char,
-        text_size: usize,
-    ) -> u32;
-
-    pub(super) fn volgwain_plan(
-        airs: *const Air,
-        airs_length: usize,
-        ids: *mut usize,
-        ids_length: usize,
-        sizes: *mut PlanSizes,
-        refusal: *mut Refusal,
-        text: *mut c_char,
-        text_size: usize,
-    ) -> u32;
-
-    pub(super) fn volgwain_generate_by_ids(
-        tables: *const Tables,
-        traces: *const Traces,
-        ids: *const usize,
-        ids_length: usize,
-        sizes: *const PlanSizes,
-        alpha: *const Element,
-        beta: *const Element,
-        auxiliary: *mut Element,
-        auxiliary_length: usize,
-        terminal: *mut Terminal,
-        refusal: *mut Refusal,
-        text: *mut c_char,
-        text_size: usize,
-    ) -> u32;
-
-    pub(super) fn volgwain_prove(
-        airs: *const Air,
-        airs_length: usize,
-        traces: *const Traces,
-        traces_length: usize,
-        alpha: *const Element,
-        beta: *const Element,
-        auxiliary: *mut Element,
-        auxiliary_length: usize,
-        terminals: *mut Terminal,
-        terminals_length: usize,
-        refusal: *mut Refusal,
-        text: *mut c_char,
-        text_size: usize,
-    ) -> u32;
-
-    pub(super) fn volgwain_verify(
-        airs: *const Air,
-        airs_length: usize,
-        traces: *const Traces,
-        traces_length: usize,
-        alpha: *const Element,
-        beta: *const Element,
-        witness: *const AirWitness,
-        witness_length: usize,
-        refusal: *mut Refusal,
-        text: *mut c_char,
-        text_size: usize,
-    ) -> u32;
-
-    pub(super) fn volgwain_soundness_count(
-        airs: *const Air,
-        airs_length: usize,
-        traces: *const Traces,
-        traces_length: usize,
-        counts: *mut Counts,
-        refusal: *mut Refusal,
-        text: *mut c_char,
-        text_size: usize,
-    ) -> u32;
-
-    pub(super) fn volgwain_soundness_of_heights(
-        airs: *const Air,
-        airs_length: usize,
-        counts: *mut HeightCounts,
-        refusal: *mut Refusal,
-        text: *mut c_char,
-        text_size: usize,
-    ) -> u32;
-
-    pub(super) fn volgwain_grid_count(
-        airs: *const Air,
-        airs_length: usize,
-        traces: *const Traces,
-        traces_length: usize,
-        alphas: *const Element,
-        alphas_length: usize,
-        betas: *const Element,
-        betas_length: usize,
-        grid: *mut Grid,
-        refusal: *mut Refusal,
-        text: *mut c_char,
-        text_size: usize,
-    ) -> u32;
-
-    pub(super) fn volgwain_debug_check(
-        airs: *const Tables,
-        airs_length: usize,
-        traces: *const Traces,
-        traces_length: usize,
-        refusal: *mut Refusal,
-        text: *mut c_char,
-        text_size: usize,
-    ) -> u32;
-
-    pub(super) fn volgwain_generate_rows(
-        tables: *const Tables,
-        around: *const Traces,
-        rows: *const Rows,
-        ids: *const usize,
-        ids_length: usize,
-        sizes: *const PlanSizes,
-        alpha: *const Element,
-        beta: *const Element,
-        auxiliary: *mut Element,
-        auxiliary_length: usize,
-        sum: *mut Element,
-        refusal: *mut Refusal,
-        text: *mut c_char,
-        text_size: usize,
-    ) -> u32;
-
-    pub(super) fn volgwain_shift(
-        cells: *mut Element,
-        cells_length: usize,
-        width: usize,
-        offset: *const Element,
-        refusal: *mut Refusal,
-        text: *mut c_char,
-        text_size: usize,
-    ) -> u32;
-
-    pub(super) fn volgwain_verify_rows(
-        tables: *const Tables,
-        around: *const Traces,
-        rows: *const Rows,
-        ids: *const usize,
-        ids_length: usize,
-        sizes: *const PlanSizes,
-        alpha: *const Element,
-        beta: *const Element,
-        witness: *const AirWitness,
-        refusal: *mut Refusal,
-        text: *mut c_char,
-        text_size: usize,
-    ) -> u32;
 }

@@ -1,8 +1,8 @@
 //! The boundary to the library in C, and all that is unsafe in this crate.
 //!
-//! `declared` has the structs and functions of `bindings/c/volgwain.h`, and a test compares the
-//! two. `calls` has a safe function for each of them: it takes slices for pointers and lengths, and
-//! an [`Error`](crate::Error) for a refusal.
+//! `declared` has the structs of `bindings/c/volgwain.h` and `functions` the functions, and tests
+//! compare them. `calls` has a safe function for each of them, over any field: it takes slices for
+//! pointers and lengths, and an [`Error`](crate::Error) for a refusal.
 //!
 //! What the header asks of a caller holds of every call made here:
 //!
@@ -12,8 +12,10 @@
 //! - what is written is initialised, and borrowed as mutable, so it overlaps nothing else.
 #![allow(unsafe_code)]
 
+mod abi;
 mod calls;
 mod declared;
+mod functions;
 
 pub(crate) use calls::{
     Planned, PlannedIds, debug_check, degrees, generate, generate_by_ids, generate_rows,
@@ -21,11 +23,13 @@ pub(crate) use calls::{
     verify_rows,
 };
 pub(crate) use declared::{Node, PlanSizes, Record, Refusal, Rows, Span, Terminal, kind};
+pub use functions::Linked;
 
 #[cfg(all(test, target_pointer_width = "64"))]
 mod tests {
     use super::declared::*;
-    use crate::element::Element;
+    use crate::Element;
+    use crate::field::BabyBear;
 
     /// The size and the alignment of a type.
     fn layout<T>() -> (usize, usize) {
@@ -41,11 +45,11 @@ mod tests {
         assert_eq!(layout::<Record>(), (80, 8));
         assert_eq!(layout::<Tables>(), (64, 8));
         assert_eq!(layout::<Traces>(), (64, 8));
-        assert_eq!(layout::<Terminal>(), (20, 4));
+        assert_eq!(layout::<Terminal<BabyBear>>(), (20, 4));
         assert_eq!(layout::<Refusal>(), (56, 8));
         assert_eq!(layout::<TableSizes>(), (32, 8));
         assert_eq!(layout::<Air>(), (72, 8));
-        assert_eq!(layout::<AirWitness>(), (48, 8));
+        assert_eq!(layout::<AirWitness<BabyBear>>(), (48, 8));
         assert_eq!(layout::<PlanSizes>(), (16, 8));
         assert_eq!(layout::<Wide>(), (16, 8));
         assert_eq!(layout::<Counts>(), (88, 8));

@@ -3,10 +3,8 @@
 use crate::model::machine::{Cells, Machine};
 use crate::random::Random;
 use std::iter::zip;
-use volgwain::{
-    Air, AirWitness, Batch, Code, Count, Element, Error, Expr, Lookup, MODULUS, Message, Traces,
-    Witness,
-};
+use volgwain::generic::{Air, AirWitness, Batch, Count, Element, Expr, Lookup, Message, Witness};
+use volgwain::{Code, Error, Field, Traces};
 
 /// How many rows make a range.
 const RANGE_ROWS: usize = 4096;
@@ -17,18 +15,18 @@ const HEIGHTS: [usize; 9] = [1, 5, 4095, 4096, 4097, 8192, 8193, 8195, 12_289];
 const THREADS: [usize; 4] = [2, 3, 4, 7];
 
 /// A batch that is worked on by one thread, and the traces and challenges that it is given.
-struct Work {
-    batch: Batch,
+struct Work<F> {
+    batch: Batch<F>,
     cells: Vec<Cells>,
-    alpha: Element,
-    beta: Element,
+    alpha: Element<F>,
+    beta: Element<F>,
 }
 
 /// What the calls of a batch answer, with the witness of each AIR.
-type Answers = (Result<Witness, Error>, Vec<Result<Witness, Error>>);
+type Answers<F> = (Result<Witness<F>, Error>, Vec<Result<Witness<F>, Error>>);
 
-impl Work {
-    fn of(machine: &Machine, random: &mut Random) -> Work {
+impl<F: Field> Work<F> {
+    fn of(machine: &Machine<F>, random: &mut Random) -> Work<F> {
         let airs = machine.airs();
         let batch = Batch::new(zip(&airs, machine.heights())).expect("buses have one width");
         let (alpha, beta) = (random.element(), random.element());
@@ -39,23 +37,23 @@ impl Work {
         self.cells.iter().map(Cells::traces).collect()
     }
 
-    fn on(&self, threads: usize) -> Batch {
+    fn on(&self, threads: usize) -> Batch<F> {
         self.batch.clone().with_threads(threads)
     }
 
-    fn prove(&self, batch: &Batch) -> Answers {
+    fn prove(&self, batch: &Batch<F>) -> Answers<F> {
         let traces = self.traces();
         let of_air = |air: usize| batch.generate(air, &traces[air], self.alpha, self.beta);
         let witness = batch.prove(&traces, self.alpha, self.beta);
         (witness, (0..traces.len()).map(of_air).collect())
     }
 
-    fn verify(&self, batch: &Batch, witness: &Witness) -> Result<(), Error> {
+    fn verify(&self, batch: &Batch<F>, witness: &Witness<F>) -> Result<(), Error> {
         batch.verify(&self.traces(), self.alpha, self.beta, witness)
     }
 
     /// Asserts that any number of threads answers as one does, and returns the witness.
-    fn assert_alike(&self) -> Result<Witness, Error> {
+    fn assert_alike(&self) -> Result<Witness<F>, Error> {
         let alone = self.prove(&self.batch);
         let verdict = alone.0.as_ref().map(|witness| self.verify(&self.batch, witness));
         for threads in THREADS {
@@ -68,8 +66,8 @@ impl Work {
     }
 
     /// Asserts that a witness with another cell on this row is refused there, by any number of threads.
-    fn assert_refuses_change(&self, witness: &Witness, air: usize, row: usize, cell: usize) {
-        let mut cells: Vec<Vec<Element>> =
+    fn assert_refuses_change(&self, witness: &Witness<F>, air: usize, row: usize, cell: usize) {
+        let mut cells: Vec<Vec<Element<F>>> =
             witness.airs().map(|part| part.auxiliary.to_vec()).collect();
         let width = witness.air(air).expect("it has a part").width;
         let place = row * width + cell;
@@ -89,7 +87,7 @@ impl Work {
 }
 
 /// Machines of eight AIRs that balance, with long traces.
-fn works(seed: u64, machines: usize) -> impl Iterator<Item = (Work, Random)> {
+fn works<F: Field>(seed: u64, machines: usize) -> impl Iterator<Item = (Work<F>, Random)> {
     let mut random = Random::new(seed);
     (0..machines).map(move |_| {
         let heights: [usize; 4] = std::array::from_fn(|_| HEIGHTS[random.below(HEIGHTS.len())]);
@@ -100,10 +98,9 @@ fn works(seed: u64, machines: usize) -> impl Iterator<Item = (Work, Random)> {
     })
 }
 
-#[test]
-fn any_number_of_threads_answers_as_one() {
+fn any_number_of_threads_answers_as_one<F: Field>() {
     let (mut accepted, mut refused) = (0, 0);
-    for (work, _) in works(1, 24) {
+    for (work, _) in works::<F>(1, 24) {
         match work.assert_alike() {
             Ok(witness) => {
                 assert_eq!(work.verify(&work.on(4), &witness), Ok(()));
@@ -119,10 +116,9 @@ fn any_number_of_threads_answers_as_one() {
     assert!(accepted >= 8 && refused >= 2, "{accepted} are accepted, {refused} refused");
 }
 
-#[test]
-fn a_changed_cell_of_each_range_is_refused_on_its_row() {
+fn a_changed_cell_of_each_range_is_refused_on_its_row<F: Field>() {
     let mut ranges = 0;
-    for (work, mut random) in works(2, 3) {
+    for (work, mut random) in works::<F>(2, 3) {
         let Ok(witness) = work.batch.prove(&work.traces(), work.alpha, work.beta) else { continue };
         for (air, part) in witness.airs().enumerate() {
             for first in (0..part.height()).step_by(RANGE_ROWS) {
@@ -138,35 +134,38 @@ fn a_changed_cell_of_each_range_is_refused_on_its_row() {
 
 /// Traces of two AIRs, each of which asks for what the other one provides: column 0, as often as column 1
 /// says, with a flag in column 2.
-struct Asked {
-    batch: Batch,
+struct Asked<F> {
+    batch: Batch<F>,
     traces: [Vec<u32>; 2],
 }
 
-impl Asked {
-    const HEIGHT: usize = 3 * RANGE_ROWS + 7;
-    const WIDTH: usize = 3;
+/// Their height.
+const HEIGHT: usize = 3 * RANGE_ROWS + 7;
 
-    fn new() -> Asked {
-        let sent = |count: Expr| {
+/// Their width.
+const WIDTH: usize = 3;
+
+impl<F: Field> Asked<F> {
+    fn new() -> Asked<F> {
+        let sent = |count: Expr<F>| {
             let message = Message::query([Expr::main(0)], Count::bounded(count, 1));
             Air::new([Lookup::exclusive_on_bus("keys", [message.when(Expr::main(2))])]).unwrap()
         };
         let (asks, provides) = (sent(Expr::main(1)), sent(-Expr::main(1)));
-        let batch = Batch::new([(&asks, Asked::HEIGHT), (&provides, Asked::HEIGHT)]).unwrap();
+        let batch = Batch::new([(&asks, HEIGHT), (&provides, HEIGHT)]).unwrap();
         let row = |row: usize| [row as u32 % 50, row as u32 % 3, u32::from(row % 4 != 0)];
-        let rows: Vec<u32> = (0..Asked::HEIGHT).flat_map(row).collect();
+        let rows: Vec<u32> = (0..HEIGHT).flat_map(row).collect();
         Asked { batch, traces: [rows.clone(), rows] }
     }
 
     fn cell(&mut self, air: usize, row: usize, column: usize) -> &mut u32 {
-        &mut self.traces[air][row * Asked::WIDTH + column]
+        &mut self.traces[air][row * WIDTH + column]
     }
 
     /// Asserts that two, three and four threads answer as one, and returns the refusal.
-    fn refusal(&self, alpha: Element) -> Error {
+    fn refusal(&self, alpha: Element<F>) -> Error {
         let beta = Element::from(7);
-        let traces = self.traces.each_ref().map(|cells| Traces::new(cells, Asked::WIDTH));
+        let traces = self.traces.each_ref().map(|cells| Traces::new(cells, WIDTH));
         let answer = |threads| self.batch.clone().with_threads(threads).prove(&traces, alpha, beta);
         let alone = answer(1);
         for threads in [2, 3, 4] {
@@ -176,10 +175,9 @@ impl Asked {
     }
 }
 
-#[test]
-fn the_first_fault_of_all_ranges_is_refused() {
+fn the_first_fault_of_all_ranges_is_refused<F: Field>() {
     let alpha = Element::new([5, 6, 7, 8]);
-    let last = Asked::HEIGHT - 1;
+    let last = HEIGHT - 1;
     for (faults, first) in [
         (vec![(0, 1)], (0, 1)),
         (vec![(0, last)], (0, last)),
@@ -188,7 +186,7 @@ fn the_first_fault_of_all_ranges_is_refused() {
         (vec![(0, 8192), (0, 8191), (1, 0)], (0, 8191)),
         (vec![(1, last), (1, 5000)], (1, 5000)),
     ] {
-        let mut asked = Asked::new();
+        let mut asked = Asked::<F>::new();
         for (air, row) in faults {
             *asked.cell(air, row, 2) = 2;
         }
@@ -199,10 +197,9 @@ fn the_first_fault_of_all_ranges_is_refused() {
     }
 }
 
-#[test]
-fn a_denominator_that_vanishes_is_refused_on_the_first_row_that_has_it() {
+fn a_denominator_that_vanishes_is_refused_on_the_first_row_that_has_it<F: Field>() {
     // one lookup, whose id is 0: its denominator is alpha + 7 less the tuple
-    let mut asked = Asked::new();
+    let mut asked = Asked::<F>::new();
     *asked.cell(1, 9001, 0) = 60;
     *asked.cell(1, 9001, 2) = 1;
     let refusal = asked.refusal(Element::from(53));
@@ -210,26 +207,24 @@ fn a_denominator_that_vanishes_is_refused_on_the_first_row_that_has_it() {
     assert_eq!((refusal.air(), refusal.row()), (Some(1), Some(9001)));
 }
 
-#[test]
-fn a_large_number_is_refused_before_a_fault_of_an_earlier_row() {
-    let mut asked = Asked::new();
+fn a_large_number_is_refused_before_a_fault_of_an_earlier_row<F: Field>() {
+    let mut asked = Asked::<F>::new();
     *asked.cell(0, 3, 2) = 2;
-    *asked.cell(0, 9000, 1) = MODULUS;
+    *asked.cell(0, 9000, 1) = F::MODULUS;
     let refusal = asked.refusal(Element::new([5, 6, 7, 8]));
     assert_eq!(refusal.code(), Code::BadNumber);
-    assert_eq!((refusal.air(), refusal.index()), (Some(0), Some(9000 * Asked::WIDTH + 1)));
+    assert_eq!((refusal.air(), refusal.index()), (Some(0), Some(9000 * WIDTH + 1)));
 }
 
-#[test]
-fn numbers_of_an_air_without_lookups_are_tested_too() {
-    let asked = Asked::new();
+fn numbers_of_an_air_without_lookups_are_tested_too<F: Field>() {
+    let asked = Asked::<F>::new();
     let [asks, provides] = [&asked.batch.airs()[0], &asked.batch.airs()[1]];
     let empty = Air::new([]).unwrap();
-    let heights = [Asked::HEIGHT, Asked::HEIGHT, 2];
+    let heights = [HEIGHT, HEIGHT, 2];
     let batch = Batch::new(zip([asks, provides, &empty], heights)).unwrap();
-    let [first, second] = asked.traces.each_ref().map(|cells| Traces::new(cells, Asked::WIDTH));
+    let [first, second] = asked.traces.each_ref().map(|cells| Traces::new(cells, WIDTH));
     let small = [1, 2];
-    let large = [1, MODULUS];
+    let large = [1, F::MODULUS];
     let (alpha, beta) = (Element::new([5, 6, 7, 8]), Element::from(7));
     let batches = [1, 2, 4].map(|threads| batch.clone().with_threads(threads));
     let last = |cells| Traces::new(cells, 1);
@@ -251,15 +246,14 @@ fn numbers_of_an_air_without_lookups_are_tested_too() {
     }
 }
 
-#[test]
-fn traces_of_another_shape_are_refused_by_any_number_of_threads() {
-    let asked = Asked::new();
+fn traces_of_another_shape_are_refused_by_any_number_of_threads<F: Field>() {
+    let asked = Asked::<F>::new();
     let (alpha, beta) = (Element::new([5, 6, 7, 8]), Element::from(7));
-    let whole = Traces::new(&asked.traces[0], Asked::WIDTH);
+    let whole = Traces::new(&asked.traces[0], WIDTH);
     let cells = &asked.traces[0][..];
-    let ragged = Traces::new(&cells[1..], Asked::WIDTH);
-    let shorter = Traces::new(&cells[..cells.len() - Asked::WIDTH], Asked::WIDTH);
-    let other = whole.with_preprocessed(&cells[..Asked::HEIGHT - 1], 1);
+    let ragged = Traces::new(&cells[1..], WIDTH);
+    let shorter = Traces::new(&cells[..cells.len() - WIDTH], WIDTH);
+    let other = whole.with_preprocessed(&cells[..HEIGHT - 1], 1);
     let batches = [1, 2, 4].map(|threads| asked.batch.clone().with_threads(threads));
     let witness = batches[0].prove(&[whole, whole], alpha, beta).unwrap();
     for traces in [vec![whole, ragged], vec![shorter, whole], vec![whole, other], vec![whole]] {
@@ -272,20 +266,19 @@ fn traces_of_another_shape_are_refused_by_any_number_of_threads() {
     }
 }
 
-#[test]
-fn terminals_and_shapes_are_refused_by_any_number_of_threads() {
-    let asked = Asked::new();
+fn terminals_and_shapes_are_refused_by_any_number_of_threads<F: Field>() {
+    let asked = Asked::<F>::new();
     let (alpha, beta) = (Element::new([5, 6, 7, 8]), Element::from(7));
-    let traces = asked.traces.each_ref().map(|cells| Traces::new(cells, Asked::WIDTH));
+    let traces = asked.traces.each_ref().map(|cells| Traces::new(cells, WIDTH));
     let batches = [1, 2, 4].map(|threads| asked.batch.clone().with_threads(threads));
     let witness = batches[0].prove(&traces, alpha, beta).unwrap();
-    let parts: Vec<AirWitness<'_>> = witness.airs().collect();
+    let parts: Vec<AirWitness<'_, F>> = witness.airs().collect();
     let [first, second] = parts[..] else { panic!("there are two AIRs") };
     let unsummed = Witness::new([first, AirWitness { terminal: first.terminal, ..second }]);
     let missing = Witness::new([first, AirWitness { terminal: None, ..second }]);
     let narrower = Witness::new([AirWitness { width: 1, ..first }, second]);
     let lower = AirWitness { auxiliary: &second.auxiliary[2..], ..second };
-    let large = AirWitness { terminal: Some(Element::from(MODULUS)), ..first };
+    let large = AirWitness { terminal: Some(Element::from(F::MODULUS)), ..first };
     for (changed, code) in [
         (unsummed, Code::ConstraintFailed),
         (missing, Code::TerminalPresence),
@@ -299,11 +292,22 @@ fn terminals_and_shapes_are_refused_by_any_number_of_threads() {
         assert_eq!((&verdicts[1], &verdicts[2]), (&verdicts[0], &verdicts[0]));
     }
     // both AIRs ask: each row is right, and the sum is not zero
-    let twice = Batch::new(zip([&asked.batch.airs()[0]; 2], [Asked::HEIGHT; 2])).unwrap();
+    let twice = Batch::new(zip([&asked.batch.airs()[0]; 2], [HEIGHT; 2])).unwrap();
     for threads in [1, 2, 4] {
         let twice = twice.clone().with_threads(threads);
         let witness = twice.prove(&traces, alpha, beta).unwrap();
         let verdict = twice.verify(&traces, alpha, beta, &witness);
         assert_eq!(verdict.map_err(|it| it.code()), Err(Code::TerminalSum));
     }
+}
+
+over_each_field! {
+    any_number_of_threads_answers_as_one,
+    a_changed_cell_of_each_range_is_refused_on_its_row,
+    the_first_fault_of_all_ranges_is_refused,
+    a_denominator_that_vanishes_is_refused_on_the_first_row_that_has_it,
+    a_large_number_is_refused_before_a_fault_of_an_earlier_row,
+    numbers_of_an_air_without_lookups_are_tested_too,
+    traces_of_another_shape_are_refused_by_any_number_of_threads,
+    terminals_and_shapes_are_refused_by_any_number_of_threads,
 }
