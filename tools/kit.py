@@ -33,6 +33,12 @@ def lanes():
     return max(1, min(kit().processors(), kit().free() // MEMORY_OF_A_CHECK))
 
 
+def given_jobs():
+    """The flags for as many jobs of one check as RT_JOBS says, if it is given."""
+    given = os.environ.get("RT_JOBS", "")
+    return ["--jobs", given] if given.isdigit() and int(given) else []
+
+
 def has_library(crate):
     """Whether a crate's library stands in its checkout. `rt ci` leaves one without a stamp; one with a stamp has to be
     made from the sources that are here."""
