@@ -106,7 +106,8 @@ impl<const P: u32, K: MontyParameters<P>> MontyField31<P, K> {
     fn reduce(x: u64) -> u32
         requires { x < P * 4294967296 }
         ensures below { result < P }
-        ensures value { residue_of P K.positive result ≡ from_stored P K.radix_inverse K.positive x }
+        ensures value { residue_of P K.positive result
+            ≡ from_stored P K.radix_inverse K.positive x }
     {
         Self::reduce_halves((x / 4_294_967_296) as u32, (x % 4_294_967_296) as u32)
     }
@@ -116,7 +117,8 @@ impl<const P: u32, K: MontyParameters<P>> MontyField31<P, K> {
     fn reduce_wide(x: u64) -> u32
         requires { x < 2 * P * 4294967296 }
         ensures below { result < P }
-        ensures value { residue_of P K.positive result ≡ from_stored P K.radix_inverse K.positive x }
+        ensures value { residue_of P K.positive result
+            ≡ from_stored P K.radix_inverse K.positive x }
     {
         Self::reduce_halves(
             Self::reduce_once((x / 4_294_967_296) as u32),
@@ -129,7 +131,8 @@ impl<const P: u32, K: MontyParameters<P>> MontyField31<P, K> {
     fn reduce_halves(high: u32, low: u32) -> u32
         requires { high < P }
         ensures below { result < P }
-        ensures value { residue_of P K.positive result ≡ from_stored P K.radix_inverse K.positive (high * 4294967296 + low) }
+        ensures value { residue_of P K.positive result
+            ≡ from_stored P K.radix_inverse K.positive (high * 4294967296 + low) }
     {
         let multiple = low.wrapping_mul(K::MODULUS_INVERSE) as u64 * P as u64;
         Self::difference(high, (multiple / 4_294_967_296) as u32)
@@ -201,7 +204,8 @@ impl<const P: u32, K: MontyParameters<P>> MontyField31<P, K> {
     #[inline]
     fn stored_product(self, rhs: Self) -> u64
         ensures below { result < P * 2147483648 }
-        ensures value { from_stored P K.radix_inverse K.positive result ≡ (residue_ring P K.positive).mul (residue_of P K.positive 4294967296)
+        ensures value { from_stored P K.radix_inverse K.positive result
+            ≡ (residue_ring P K.positive).mul (residue_of P K.positive 4294967296)
             ((residue_ring P K.positive).mul self rhs) }
     {
         self.stored() as u64 * rhs.stored() as u64
@@ -218,8 +222,10 @@ impl<const P: u32, K: MontyParameters<P>> MontyField31<P, K> {
         w: (Self, Self),
     ) -> Self
         ensures { result ≡ (residue_ring P K.positive).add
-            ((residue_ring P K.positive).add ((residue_ring P K.positive).mul x.0 x.1) ((residue_ring P K.positive).mul y.0 y.1))
-            ((residue_ring P K.positive).add ((residue_ring P K.positive).mul z.0 z.1) ((residue_ring P K.positive).mul w.0 w.1)) }
+            ((residue_ring P K.positive).add ((residue_ring P K.positive).mul x.0 x.1)
+            ((residue_ring P K.positive).mul y.0 y.1))
+            ((residue_ring P K.positive).add ((residue_ring P K.positive).mul z.0 z.1)
+            ((residue_ring P K.positive).mul w.0 w.1)) }
     {
         let front = x.0.stored_product(x.1) + y.0.stored_product(y.1);
         let back = z.0.stored_product(z.1) + w.0.stored_product(w.1);

@@ -67,8 +67,10 @@ impl<const P: u32, K: QuarticParameters<P>> MontyQuartic<P, K> {
     /// Returns the two coefficients of `a^2 - Y b^2`.
     #[inline]
     fn norm_parts(self) -> (MontyField31<P, K>, MontyField31<P, K>)
-        ensures low { result.0 ≡ norm_low (residue_ring P K.positive) (residue_of P K.positive K.W) self }
-        ensures high { result.1 ≡ norm_high (residue_ring P K.positive) (residue_of P K.positive K.W) self }
+        ensures low { result.0 ≡ norm_low (residue_ring P K.positive)
+            (residue_of P K.positive K.W) self }
+        ensures high { result.1 ≡ norm_high (residue_ring P K.positive)
+            (residue_of P K.positive K.W) self }
     {
         let cross = self.c1 * self.c3;
         let middle = self.c0 * self.c2;
@@ -81,7 +83,8 @@ impl<const P: u32, K: QuarticParameters<P>> MontyQuartic<P, K> {
     /// The norm over [`MontyField31`].
     #[inline]
     fn norm(self) -> MontyField31<P, K>
-        ensures { result ≡ quartic_norm (residue_ring P K.positive) (residue_of P K.positive K.W) self }
+        ensures { result ≡ quartic_norm (residue_ring P K.positive)
+            (residue_of P K.positive K.W) self }
     {
         let (u, v) = self.norm_parts();
         u * u - (v * v).times_w()
@@ -90,7 +93,8 @@ impl<const P: u32, K: QuarticParameters<P>> MontyQuartic<P, K> {
     /// The norm's cofactor times `d`: the inverse, if `d` is the inverse of the norm.
     #[inline]
     fn cofactor_times(self, d: MontyField31<P, K>) -> Self
-        ensures { result ≡ quartic_cofactor (residue_ring P K.positive) (residue_of P K.positive K.W) d self }
+        ensures { result ≡ quartic_cofactor (residue_ring P K.positive)
+            (residue_of P K.positive K.W) d self }
     {
         let (u, v) = self.norm_parts();
         MontyQuartic {
@@ -254,7 +258,8 @@ impl<const P: u32, K: QuarticParameters<P>> Domain for MontyQuartic<P, K> {
 }
 
 impl<const P: u32, K: QuarticParameters<P>> Field for MontyQuartic<P, K> {
-    ghost inverse = { quartic_inverse (residue_ring P K.positive) (residue_of P K.positive K.W) (residue_inverse P K.positive) };
+    ghost inverse = { quartic_inverse (residue_ring P K.positive) (residue_of P K.positive K.W)
+        (residue_inverse P K.positive) };
 
     ghost text = { quartic_text };
 
