@@ -3,6 +3,7 @@ ghost use Rattle.std.specs.Prelude.{◌≡◌, ◌↔◌, ◌<◌, All, IsTrue, 
 
 mod batches;
 mod chunks;
+mod columns;
 mod counts;
 mod exhaustion;
 mod existence;

@@ -1,3 +1,7 @@
-//! The debug check: which tuple does not balance, by how much, and on which rows.
+//! The debug check: which tuples do not balance, by how much, and on which rows; and why lookups do not fit
+//! their traces.
 
-pub use lookup_debug::{Location, LookupDebugInstance, LookupFault, check_lookups};
+pub use lookup_debug::{
+    BusGroup, Cell, FitFault, GroupName, Location, LookupDebugInstance, LookupFault, Mismatch,
+    Place, SignedField, UnbalancedTuple, bus_table, check_lookups, fit_fault, mismatch_of,
+};

@@ -171,7 +171,7 @@ module _ {A : Type 0} where
     seen_before xs i j a b lt e f = in_order_seen xs a b (in_order_at (first_seen same xs) i j a b lt e f)
 
 -- the index of an item that is among some
-any_at : {A : Type 0} (same : A → A → Bool) (decides : (a b : A) → Decides (same a b) (a ≡ b)) (b : A) (ks : List A) → list_any (λ y. same y b) ks ≡ true → (j : ℕ) × (slice_get ks j ≡ Some b)
+pub any_at : {A : Type 0} (same : A → A → Bool) (decides : (a b : A) → Decides (same a b) (a ≡ b)) (b : A) (ks : List A) → list_any (λ y. same y b) ks ≡ true → (j : ℕ) × (slice_get ks j ≡ Some b)
 any_at same decides b [] e = absurd (true≢false (sym e))
 any_at same decides b (k ∷ ks) e = elim (or_cases (same k b) (list_any (λ y. same y b) ks) e) [
   | inl here ↦ (0, ap Some ((decides k b).0 here))

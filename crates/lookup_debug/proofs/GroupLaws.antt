@@ -90,11 +90,11 @@ kept_parts h p f (x ∷ xs) =
 
 module _ {F : Type 0} (R : Ring F) (eq : F → F → Bool) where
   -- a lookup of an AIR at an index
-  abbrev lookup_at : ℕ × Traced F → ℕ × Lookup F → LookupAt F
+  abbrev pub lookup_at : ℕ × Traced F → ℕ × Lookup F → LookupAt F
   lookup_at i l = record { instance = i.0; index = l.0; traced = i.1; lookup = l.1 }
 
   -- its group if it is local
-  abbrev group_at : ℕ × Traced F → ℕ × Lookup F → List (Group F)
+  abbrev pub group_at : ℕ × Traced F → ℕ × Lookup F → List (Group F)
   group_at i l = cond (is_local (lookup_at i l)) (local_group R eq (lookup_at i l) ∷ []) []
 
   -- the groups of the first n lookups of an AIR that are local
@@ -106,11 +106,11 @@ module _ {F : Type 0} (R : Ring F) (eq : F → F → Bool) where
   first_air_groups instances n = flat_map (local_groups_in R eq) (take n (enumerate_from 0 instances))
 
   -- the local groups of an AIR, lookup by lookup
-  local_groups-parts : (i : ℕ × Traced F) → local_groups_in R eq i ≡ flat_map (group_at i) (enumerate_from 0 i.1.lookups)
+  pub local_groups-parts : (i : ℕ × Traced F) → local_groups_in R eq i ≡ flat_map (group_at i) (enumerate_from 0 i.1.lookups)
   local_groups-parts i = kept_images (lookup_at i) is_local (local_group R eq) (enumerate_from 0 i.1.lookups)
 
   -- and all of them, AIR by AIR
-  air_groups-parts : (instances : List (Traced F)) → local_groups R eq instances ≡ flat_map (local_groups_in R eq) (enumerate_from 0 instances)
+  pub air_groups-parts : (instances : List (Traced F)) → local_groups R eq instances ≡ flat_map (local_groups_in R eq) (enumerate_from 0 instances)
   air_groups-parts instances = kept_parts lookups_in is_local (local_group R eq) (enumerate_from 0 instances)
 
   -- a lookup of an AIR after some that balance

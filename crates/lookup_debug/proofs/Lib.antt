@@ -1,10 +1,17 @@
 pub mod AmountLaws
 pub mod AmountNets
+pub mod BalanceLaws
 pub mod BusLaws
 pub mod FirstMismatch
+pub mod FirstUnbalancedLaws
 pub mod GroupLaws
+pub mod GroupListLaws
+pub mod ListedKeys
 pub mod MismatchLaws
+pub mod PlaceLaws
+pub mod RowLaws
 pub mod SentContributionLaws
 pub mod SpanLaws
+pub mod TallyLaws
 pub mod TextLaws
 pub mod TupleLocationLaws

@@ -1,6 +1,10 @@
+pub mod BusTable
 pub mod Contributions
 pub mod FaultText
+pub mod FirstUnbalanced
+pub mod Fits
 pub mod Groups
 pub mod Mismatch
 pub mod SentContributions
+pub mod Signs
 pub mod internal

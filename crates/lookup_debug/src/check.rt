@@ -2,22 +2,21 @@
 ghost use Rattle.std.specs.Prelude.{◌≡◌, ◌⊎◌, All, IfOk, MatchResult, Some, map, slice_get, string_bytes};
 ghost use Rattle.air.specs.Traces.{HaveOneHeight, layout_of};
 ghost use Rattle.lookup_debug.specs.Contributions.{AreFitting, IsTracedFitting, contributions_of, location_of, traced_of};
-ghost use Rattle.lookup_debug.specs.Groups.{bus_group, is_missing, local_groups, local_label, traced_bus_names};
+ghost use Rattle.lookup_debug.specs.Groups.{bus_group, local_groups, local_label, traced_bus_names};
 ghost use Rattle.lookup_debug.specs.Mismatch.{AllBalance, HasParts, IsMismatch};
 ghost use Rattle.lookup_debug.specs.internal.Checks.{AnswersGroup, AnswersGroups, local_groups_in};
-ghost use Rattle.lookup_model.specs.Outline.{bus_of};
 ghost use Rattle.lookup_model.specs.Records.{LookupsFit};
 
 use crate::arena::Contributions;
 use crate::fault::{Location, LookupFault};
 use crate::first::first_mismatch;
-use crate::groups::bus_names;
+use crate::groups::{bus_names, is_local};
 use crate::instance::LookupDebugInstance;
 use crate::labels::{label_of_bus, label_of_local};
 use crate::tuple_locations::TupleLocations;
 use crate::walk::{walk_bus, walk_lookup};
 use field::Field;
-use lookup_model::{Kind, Lookup};
+use lookup_model::Lookup;
 use std::alloc::{AllocError, Global};
 
 /// Checks that all tuples balance: those of each local lookup by itself, in the order instance,
@@ -81,16 +80,6 @@ fn check_locals_of<F: Field>(
         }
     }
     Ok(())
-}
-
-/// Whether a lookup is local.
-fn is_local<F: Field>(lookup: &Lookup<F>) -> bool
-    ensures { result ≡ is_missing (bus_of lookup.now.kind) }
-{
-    match &lookup.kind {
-        Kind::Local => true,
-        Kind::Global(_) => false,
-    }
 }
 
 /// Checks one local lookup.

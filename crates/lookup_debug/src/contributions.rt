@@ -20,7 +20,7 @@ use lookup_rows::LookupTraceBuilder;
 use std::alloc::{AllocError, Global};
 
 /// Appends the values of a tuple on the builder's row.
-fn push_tuple<F: Field>(
+pub(crate) fn push_tuple<F: Field>(
     elements: &mut Vec<F>,
     tuple: &[SymbolicExpression<F>],
     builder: &LookupTraceBuilder<'_, F, F>,
@@ -103,7 +103,7 @@ pub(crate) fn amount_of<F: Field>(
 }
 
 /// Appends the contributions of a lookup on the builder's row.
-fn push_on_row<F: Field>(
+pub(crate) fn push_on_row<F: Field>(
     contributions: &mut Contributions<F>,
     lookup: &Lookup<F>,
     builder: &LookupTraceBuilder<'_, F, F>,

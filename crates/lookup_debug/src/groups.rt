@@ -4,7 +4,7 @@ ghost use Rattle.std.specs.Cmp.Lexicographic.{pointwise};
 ghost use Rattle.std.specs.List.{filter_map};
 ghost use Rattle.indexmap.specs.IndexSet.{keys};
 ghost use Rattle.lookup_debug.specs.Contributions.{traced_of};
-ghost use Rattle.lookup_debug.specs.Groups.{traced_bus_names};
+ghost use Rattle.lookup_debug.specs.Groups.{is_missing, traced_bus_names};
 ghost use Rattle.lookup_model.specs.Names.{is_named};
 ghost use Rattle.lookup_model.specs.Net.{first_seen};
 ghost use Rattle.lookup_model.specs.Outline.{bus_of};
@@ -65,5 +65,15 @@ pub(crate) fn is_on_bus<F: Field>(lookup: &Lookup<F>, name: &str) -> bool
     match &lookup.kind {
         Kind::Global(other) => name == other.as_str(),
         Kind::Local => false,
+    }
+}
+
+/// Whether a lookup is local.
+pub(crate) fn is_local<F: Field>(lookup: &Lookup<F>) -> bool
+    ensures { result ≡ is_missing (bus_of lookup.now.kind) }
+{
+    match &lookup.kind {
+        Kind::Local => true,
+        Kind::Global(_) => false,
     }
 }

@@ -1,6 +1,8 @@
 //! What the tests share: expressions, lookups and traces.
+mod bus_table;
 mod debug;
 mod extraction;
+mod fit;
 mod guards;
 mod json;
 mod packing;

@@ -14,7 +14,7 @@ use matrix::RowMajorMatrix;
 use std::alloc::Global;
 use std::process::Abort;
 
-fn has_fitting_lookups<F: Field>(instance: &LookupDebugInstance<'_, F>) -> bool
+pub(super) fn has_fitting_lookups<F: Field>(instance: &LookupDebugInstance<'_, F>) -> bool
     ensures { IsTrue result ↔ LookupsFit (layout_of_traces instance.now.main_trace.now
         (option_copied instance.now.preprocessed_trace) instance.now.public_values.now)
         instance.now.lookups.now }
@@ -27,7 +27,7 @@ fn has_fitting_lookups<F: Field>(instance: &LookupDebugInstance<'_, F>) -> bool
     fits(instance.lookups, &layout)
 }
 
-fn has_one_height<F: Field>(instance: &LookupDebugInstance<'_, F>) -> bool
+pub(super) fn has_one_height<F: Field>(instance: &LookupDebugInstance<'_, F>) -> bool
     ensures { IsTrue result ↔ ForSome (option_copied instance.now.preprocessed_trace)
         (λ m. height m ≡ height instance.now.main_trace.now) }
 {
@@ -38,7 +38,7 @@ fn has_one_height<F: Field>(instance: &LookupDebugInstance<'_, F>) -> bool
 }
 
 /// An AIR without preprocessed trace and public values.
-fn instance<'a, F: Field>(
+pub(super) fn instance<'a, F: Field>(
     main: &'a RowMajorMatrix<F>,
     lookups: &'a [Lookup<F>],
 ) -> LookupDebugInstance<'a, F> {
@@ -94,7 +94,12 @@ fn expect_of_air<F: Field>(
 }
 
 /// A local lookup of cell 0, as often as cell `count` says.
-fn with_count<F: Field>(rt: &impl Abort, alloc: Global, count: usize, column: usize) -> Lookup<F> {
+pub(super) fn with_count<F: Field>(
+    rt: &impl Abort,
+    alloc: Global,
+    count: usize,
+    column: usize,
+) -> Lookup<F> {
     let tuple = alone(rt, alloc, cell(0));
     local(
         alone(rt, alloc, tuple),
@@ -104,7 +109,13 @@ fn with_count<F: Field>(rt: &impl Abort, alloc: Global, count: usize, column: us
 }
 
 /// The same on a bus.
-fn on_bus(rt: &impl Abort, alloc: Global, bus: &str, count: usize, column: usize) -> Lookup<F7> {
+pub(super) fn on_bus(
+    rt: &impl Abort,
+    alloc: Global,
+    bus: &str,
+    count: usize,
+    column: usize,
+) -> Lookup<F7> {
     let mut lookup = with_count(rt, alloc, count, column);
     lookup.kind = Kind::Global(text(rt, alloc, bus));
     lookup
