@@ -1,0 +1,48 @@
+//! Why names or messages are refused, and where.
+ghost use Rattle.std.specs.Prelude.{◌≡◌};
+ghost use Rattle.lookup_names.specs.declared.fault.NameFault.TheVariants.{Memory};
+
+use std::alloc::{AllocError, AllocFailed};
+
+/// What is wrong with a name or a message.
+#[derive(Debug, Clone, Copy, PartialEq, Eq)]
+pub enum NameWhy {
+    /// No column, public value, definition or selector has this name.
+    UnknownName,
+    /// No column has this name, of which the next row is asked for.
+    UnknownColumn,
+    /// How often a message counts depends on the row, and the most is not said.
+    NoWeight,
+}
+
+/// The byte of a text at which something is wrong, and what it is.
+#[derive(Debug, Clone, Copy, PartialEq, Eq)]
+pub struct NameRefusal {
+    pub at: usize,
+    pub why: NameWhy,
+}
+
+/// Why names could not be looked up.
+#[derive(Debug, Clone, Copy, PartialEq, Eq)]
+pub enum NameFault {
+    /// Memory ran out.
+    Memory,
+    /// The first fault from left to right.
+    Refused(NameRefusal),
+}
+
+impl From<AllocError> for NameFault {
+    ghost from_gives = { λ _ e. e ≡ Memory };
+
+    fn from(_error: AllocError) -> NameFault {
+        NameFault::Memory
+    }
+}
+
+impl<T: Drop> From<AllocFailed<T>> for NameFault {
+    ghost from_gives = { λ _ e. e ≡ Memory };
+
+    fn from(_error: AllocFailed<T>) -> NameFault {
+        NameFault::Memory
+    }
+}

@@ -1,0 +1,124 @@
+//! What messages send, and how often.
+ghost use Rattle.std.specs.Prelude.{Ok, map};
+ghost use Rattle.lookup_text.specs.Formulas.{formula_of};
+ghost use Rattle.lookup_text.specs.Messages.{message_of as said_by};
+ghost use Rattle.lookup_names.specs.Faults.{Gives};
+ghost use Rattle.lookup_names.specs.Messages.{all_meant, constant_of, count_of, sent, sent_of, signed, times_of, weight_of};
+ghost use Rattle.lookup_names.specs.Scopes.{names_of};
+ghost use Rattle.lookup_names.specs.Values.{meant_of};
+
+use crate::fault::{NameFault, NameRefusal, NameWhy};
+use crate::scope::{Scope, value_of};
+use crate::value::Value;
+use lookup_text::{MessageText, Tree, Verb};
+use std::alloc::Global;
+
+/// A message over columns by their numbers.
+#[derive(Debug, Drop)]
+pub struct NamedMessage {
+    /// The byte at which it begins.
+    pub at: usize,
+    pub tuple: Vec<Value>,
+    /// How often it counts: with a minus where it is provided or received.
+    pub count: Value,
+    /// The most that a row adds to a count by it: 0 where it is provided.
+    pub weight: u64,
+}
+
+/// What a message sends and how often, with its weight.
+///
+/// Refuses the first name that stands for nothing, and then a message whose weight is not known:
+/// it is not provided, no `at most` is there, and the count is no number.
+#[tactic(auto, unfolding(crate::specs::Messages::sent))]
+pub fn named_message(
+    alloc: Global,
+    scope: &Scope<'_>,
+    message: &MessageText,
+) -> Result<NamedMessage, NameFault>
+    ensures { Gives sent_of result (sent (names_of scope.now) (said_by message.now)) }
+{
+    let tuple = values_of(alloc, scope, &message.tuple)?;
+    let count = count_of(alloc, scope, message)?;
+    let weight = weight_of(message)?;
+    Ok(NamedMessage {
+        at: message.at,
+        tuple,
+        count,
+        weight,
+    })
+}
+
+/// What each expression of a tuple means.
+fn values_of(alloc: Global, scope: &Scope<'_>, trees: &[Tree]) -> Result<Vec<Value>, NameFault>
+    ensures { Gives (λ v. map meant_of v.items) result
+        (all_meant (names_of scope.now) (map formula_of trees.now)) }
+{
+    let mut values = Vec::new(alloc);
+    for tree in trees {
+        let value = value_of(alloc, scope, tree)?;
+        values.push(value)?;
+    }
+    Ok(values)
+}
+
+/// How often a message counts, with its sign.
+#[tactic(auto, unfolding(crate::specs::Messages::count_of))]
+fn count_of(alloc: Global, scope: &Scope<'_>, message: &MessageText) -> Result<Value, NameFault>
+    ensures { Gives meant_of result (count_of (names_of scope.now) (said_by message.now)) }
+{
+    let times = times_of(alloc, scope, message)?;
+    with_sign(alloc, message.verb, times)
+}
+
+/// What `times` says, and else one.
+#[tactic(auto, unfolding(crate::specs::Messages::times_of))]
+fn times_of(alloc: Global, scope: &Scope<'_>, message: &MessageText) -> Result<Value, NameFault>
+    ensures { Gives meant_of result (times_of (names_of scope.now) (said_by message.now).times) }
+{
+    match &message.times {
+        Some(tree) => value_of(alloc, scope, tree),
+        None => Ok(Value::Number(1)),
+    }
+}
+
+/// A count with the sign of a verb.
+fn with_sign(alloc: Global, verb: Verb, times: Value) -> Result<Value, NameFault>
+    ensures { Gives meant_of result (Ok (signed verb (meant_of times))) }
+{
+    match verb {
+        Verb::Query | Verb::Send => Ok(times),
+        Verb::Provide | Verb::Receive => Ok(Value::Negative(Box::new(alloc, times)?)),
+    }
+}
+
+/// The most that a row adds to a count by a message.
+#[tactic(auto, unfolding(crate::specs::Messages::weight_of))]
+fn weight_of(message: &MessageText) -> Result<u64, NameFault>
+    ensures { Gives (λ n. n) result (weight_of (said_by message.now)) }
+{
+    match message.verb {
+        Verb::Provide => Ok(0),
+        _ => match message.at_most {
+            Some(most) => Ok(most),
+            None => constant_of(message),
+        },
+    }
+}
+
+/// The count of a message that is a number.
+#[tactic(auto, unfolding(crate::specs::Messages::constant_of))]
+fn constant_of(message: &MessageText) -> Result<u64, NameFault>
+    ensures { Gives (λ n. n) result
+        (constant_of (said_by message.now).at (said_by message.now).times) }
+{
+    match &message.times {
+        None => Ok(1),
+        Some(Tree::Number(number, _)) => Ok(*number),
+        Some(_) => {
+            Err(NameFault::Refused(NameRefusal {
+                at: message.at,
+                why: NameWhy::NoWeight,
+            }))
+        }
+    }
+}

@@ -1,0 +1,78 @@
+//! Values over columns by their numbers.
+ghost use Rattle.std.specs.Prelude.{◌≡◌, ◌-◌, IfOk};
+ghost use Rattle.lookup_names.specs.Values.{meant_of, powers};
+
+use std::alloc::{AllocError, Global};
+
+/// An expression over cells, public values, selectors and numbers.
+#[derive(Debug, Drop)]
+pub enum Value {
+    /// A column of the main trace, in the current row at offset 0 and the next one at 1.
+    Main { offset: usize, column: usize },
+    /// A column of the preprocessed trace, likewise.
+    Preprocessed { offset: usize, column: usize },
+    /// A public value, by its number.
+    Public(usize),
+    /// One on the first row, zero elsewhere.
+    FirstRow,
+    /// One on the last row, zero elsewhere.
+    LastRow,
+    /// One on every row but the last, zero there.
+    Transition,
+    Number(u64),
+    Negative(Box<Value>),
+    Sum(Box<Value>, Box<Value>),
+    Difference(Box<Value>, Box<Value>),
+    Product(Box<Value>, Box<Value>),
+}
+
+/// A deep copy. Fails only when out of memory.
+pub fn copy_of(alloc: Global, value: &Value) -> Result<Value, AllocError>
+    ensures { IfOk result (λ r. meant_of r ≡ meant_of value.now) }
+{
+    match value {
+        Value::Main { offset, column } => Ok(Value::Main {
+            offset: *offset,
+            column: *column,
+        }),
+        Value::Preprocessed { offset, column } => {
+            Ok(Value::Preprocessed {
+                offset: *offset,
+                column: *column,
+            })
+        }
+        Value::Public(index) => Ok(Value::Public(*index)),
+        Value::FirstRow => Ok(Value::FirstRow),
+        Value::LastRow => Ok(Value::LastRow),
+        Value::Transition => Ok(Value::Transition),
+        Value::Number(number) => Ok(Value::Number(*number)),
+        Value::Negative(inner) => Ok(Value::Negative(Box::new(alloc, copy_of(alloc, inner)?)?)),
+        Value::Sum(left, right) => {
+            let left = copy_of(alloc, left)?;
+            let right = copy_of(alloc, right)?;
+            Ok(Value::Sum(Box::new(alloc, left)?, Box::new(alloc, right)?))
+        }
+        Value::Difference(left, right) => {
+            let left = copy_of(alloc, left)?;
+            let right = copy_of(alloc, right)?;
+            Ok(Value::Difference(Box::new(alloc, left)?, Box::new(alloc, right)?))
+        }
+        Value::Product(left, right) => {
+            let left = copy_of(alloc, left)?;
+            let right = copy_of(alloc, right)?;
+            Ok(Value::Product(Box::new(alloc, left)?, Box::new(alloc, right)?))
+        }
+    }
+}
+
+/// A power with this exponent, as products from the left; for exponent 0, the base itself.
+pub(crate) fn power_of(alloc: Global, base: &Value, exponent: u64) -> Result<Value, AllocError>
+    ensures { IfOk result (λ r. meant_of r ≡ powers (exponent - 1) (meant_of base.now)) }
+{
+    let mut product = copy_of(alloc, base)?;
+    for _ in 0..exponent.saturating_sub(1) {
+        let factor = copy_of(alloc, base)?;
+        product = Value::Product(Box::new(alloc, product)?, Box::new(alloc, factor)?);
+    }
+    Ok(product)
+}

@@ -1,0 +1,15 @@
+pub mod Batches
+pub mod Faults
+pub mod Formulas
+pub mod Fronts
+pub mod Grammar
+pub mod Items
+pub mod Lexemes
+pub mod Lists
+pub mod Messages
+pub mod Numbers
+pub mod Places
+pub mod Reading
+pub mod Tables
+pub mod Tokens
+pub mod internal
