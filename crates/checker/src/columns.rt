@@ -1,6 +1,6 @@
 //! The check of one AIR under given challenges.
 ghost use Rattle.std.specs.Prelude.{◌≤◌, ◌*◌, Some, length};
-ghost use Rattle.air.specs.Traces.{HaveOneHeight, layout_of, traces_of};
+ghost use Rattle.air.specs.Traces.{layout_of, traces_of};
 ghost use Rattle.checker.specs.Columns.{ChecksColumns, without_ids};
 ghost use Rattle.lookup_model.specs.Batches.Refusals.{HasShapeAt};
 ghost use Rattle.lookup_model.specs.Records.{LookupsFit};
@@ -20,8 +20,8 @@ use std::alloc::Global;
 /// So the part of a witness can be checked that a prover made under challenges of its own, whatever ids it
 /// has; [`check_witness`](crate::check_witness) takes them from a table by ids. That lookups on one bus
 /// share an alpha and a beta and others do not, and that the terminals of a batch sum to zero, is for the
-/// caller to see to. Requires lookups that fit the traces, and a preprocessed trace as high as the main
-/// trace. Refuses the first of these, where the AIR has number 0:
+/// caller to see to. Requires lookups that fit the traces. Refuses the first of these, where the AIR has
+/// number 0:
 ///
 /// - `TerminalPresenceMismatch`, `PermutationWidthMismatch`, `PermutationHeightMismatch`, as
 ///   [`check_shape`] does;
@@ -37,7 +37,6 @@ pub fn check_columns<F: Field, EF: ExtensionField<F>>(
     terminal: &Option<LookupTerminal<EF>>,
 ) -> Result<(), LookupError>
     requires fit { LookupsFit (layout_of (traces_of traces.now)) lookups.now }
-    requires heights { HaveOneHeight (traces_of traces.now) }
     requires challenges { 2 * length lookups.now ≤ length challenges.now }
     ensures { ChecksColumns ⟦<EF as Over<F>>⟧.fields (traces_of traces.now) lookups.now
         challenges.now (aux.now, terminal.now) result }
@@ -66,7 +65,6 @@ fn check_rows<F: Field, EF: ExtensionField<F>>(
     terminal: LookupTerminal<EF>,
 ) -> Result<(), LookupError>
     requires fit { LookupsFit (layout_of (traces_of traces.now)) lookups.now }
-    requires heights { HaveOneHeight (traces_of traces.now) }
     requires challenges { 2 * length lookups.now ≤ length challenges.now }
     requires shape { HasShapeAt (without_ids (traces_of traces.now) lookups.now)
         (aux.now, Some terminal) }

@@ -13,7 +13,7 @@ chunks_hold_until-requires-clause-checked g c =
     let some = some_lookups lookups h c.args.aux.now c.args.terminal c.requires.shape in
     let shape = shaped lookups h c.args.aux.now (Some c.args.terminal) c.requires.shape some in
     record {
-      preprocessed = c.requires.heights;
+      preprocessed = c.args.traces.now.heights;
       permutation = shape.0;
       fit = LookupsFit-with_auxiliary (layout_of t) c.args.aux.now.width (length c.args.challenges.now) 1 lookups c.requires.fit;
       challenges = c.requires.challenges;
