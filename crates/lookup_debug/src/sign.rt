@@ -3,14 +3,16 @@ ghost use Rattle.std.specs.Prelude.{◌≡◌, ◌<◌, ℕ};
 ghost use Rattle.field.specs.Ring.{of_nat};
 ghost use Rattle.field.specs.IntegersModulo2.{f2_positive};
 ghost use Rattle.field.specs.IntegersModulo7.{f7_positive};
+ghost use Rattle.goldilocks.specs.Goldilocks.{goldilocks_positive};
 ghost use Rattle.lookup_debug.specs.Signs.{is_negative, value_is};
 
 use field::{F2, F7, Field, MontyField31, MontyParameters, PrimeCharacteristicRing};
+use goldilocks::Goldilocks;
 
 /// A field whose elements have a sign: each of them is a whole number below the characteristic, and
 /// those past half of the characteristic are negative. So a count of -1 is told from one of 1.
 ///
-/// `F2`, `F7` and the fields below 2^31 are such fields.
+/// `F2`, `F7`, `Goldilocks` and the fields below 2^31 are such fields.
 pub trait SignedField: Field {
     ghost number: { Self → ℕ };
 
@@ -32,6 +34,18 @@ impl<const P: u32, K: MontyParameters<P>> SignedField for MontyField31<P, K> {
 
     fn is_negative(self) -> bool {
         2 * self.as_canonical_u32() as u64 > P as u64
+    }
+}
+
+impl SignedField for Goldilocks {
+    ghost number = { λ a. a.value };
+
+    ghost number_is = { value_is 18446744069414584321 goldilocks_positive };
+
+    ghost number_below = { λ a. a.below };
+
+    fn is_negative(self) -> bool {
+        2 * self.as_canonical_u64() as u128 > 18_446_744_069_414_584_321
     }
 }
 

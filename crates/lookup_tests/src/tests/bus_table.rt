@@ -2,6 +2,7 @@
 use super::debug::{has_fitting_lookups, has_one_height, instance, on_bus, with_count};
 use super::{alone, holds, trace};
 use field::{BabyBear, F2, F7, Field, KoalaBear, PrimeCharacteristicRing};
+use goldilocks::Goldilocks;
 use lookup::Lookup;
 use lookup::debug_util::{
     BusGroup, GroupName, LookupDebugInstance, Mismatch, Place, SignedField, UnbalancedTuple,
@@ -226,6 +227,10 @@ fn elements_are_negative(rt: HostRuntime) {
     );
     holds(&rt, "minus one", (F7::ZERO - F7::ONE).is_negative());
     holds(&rt, "one", !F2::ONE.is_negative());
+    // half of 2^64 - 2^32 + 1 is 2^63 - 2^31, rounded down
+    let half = Goldilocks::new(9_223_372_034_707_292_160);
+    holds(&rt, "half of the greatest", !half.is_negative());
+    holds(&rt, "one more", (half + Goldilocks::ONE).is_negative());
 }
 
 /// No groups, groups without rows, and rows that send nothing.
