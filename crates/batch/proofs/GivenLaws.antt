@@ -3,13 +3,13 @@ use Rattle.std.proofs.Common.{◌≡◌, ◌≢◌, ◌<◌, ◌≤◌, ◌+◌,
 use Rattle.std.proofs.lemmas.Bool.{cases_lt}
 use Rattle.std.proofs.lemmas.Grind.{flat_map-append}
 use Rattle.std.proofs.lemmas.List.{append-nil, append_assoc, get_or_append_left, get_or_push, length-take-le, length_push, map_push, take-append-le, take_all}
-use Rattle.std.proofs.lemmas.List.Elements.{All-push, Contains-get_or}
-use Rattle.std.proofs.lemmas.List.Quantifiers.{all_pairs_push}
+use Rattle.std.proofs.lemmas.List.Elements.{All-push}
 use Rattle.std.specs.Borrow.{Bor}
 use Rattle.std.specs.List.{HoldsAt, flat_map, zip}
 use Rattle.std.specs.Map.{lookup}
 use Rattle.std.specs.declared.alloc.Global.{Global}
 use Rattle.std.specs.declared.vec.Vec.{Vec}
+use Rattle.indexmap.specs.IndexMap.{insert_entry}
 use Rattle.lists.proofs.Images.{images_more, same_length}
 use Rattle.lists.proofs.Items.{take_item}
 use Rattle.lists.proofs.Zips.{zip_push}
@@ -21,7 +21,7 @@ use Rattle.lookup.proofs.NamedWidthLaws.{at_inserted}
 use Rattle.lookup.specs.Lookups.{lookups_of}
 use Rattle.lookup.specs.declared.lookups.Lookups.{Lookups}
 use Rattle.batch.proofs.Greatest.{greatest_append}
-use Rattle.batch.proofs.SharedBuses.{Entry, IsByBus, same_id, same_label, share, shared}
+use Rattle.batch.proofs.SharedBuses.{Entry, apart_pairs, joined_pairs, shared}
 use Rattle.batch.specs.Lists.{lists_of}
 use Rattle.batch.specs.Order.{AreInOrder, bus_at, next_id, same_bus}
 use Rattle.batch.specs.PlanFacts.{assigned}
@@ -58,7 +58,7 @@ module _ {F : Type 0} where
       -- a lookup that shares no bus with an earlier one has the next id
       fresh : a.0 ≡ m → ((k : ℕ) (d : Entry F) → k < length all → ¬ IsTrue (same_bus (bus_at (get_or all k d)) (bus_at a))) → AreInOrder more (m + 1)
       fresh is apart = record {
-        buses = all_pairs_push IsByBus all a order.buses (λ k d lt. (λ same. absurd (omega (arith, same, below_next all k d lt, is, order.count)), λ t. absurd (apart k d lt t)));
+        buses = apart_pairs all a order.buses (λ k d lt same. absurd (omega (arith, same, below_next all k d lt, is, order.count))) apart;
         steps = steps_more order.steps (omega (arith, is, order.count));
         count = omega (arith, next_push, is, order.count);
       }
@@ -66,25 +66,15 @@ module _ {F : Type 0} where
       -- a lookup on the bus of an earlier one has its id
       joined : (name : List ℕ) (j : ℕ) → j < length all → HoldsAt (λ b. (bus_at b ≡ Some name) × (b.0 ≡ a.0)) all j → bus_at a ≡ Some name → AreInOrder more m
       joined name j here known on =
-          let e = get_or all j a in
-          let e_in = Contains-get_or all j a here in
-          let (e_on, e_id) = known a in
-          let low : a.0 < next_id all = omega (arith, below_next all j a here, e_id) in
+          let low : a.0 < next_id all = omega (arith, below_next all j a here, (known a).1) in
           record {
-            buses = all_pairs_push IsByBus all a order.buses (λ k d lt.
-                let x = get_or all k d in
-                let x_in = Contains-get_or all k d lt in (
-                  λ same. share (bus_at x) (bus_at a) name (same_label all order.buses x e x_in e_in (same ∙ sym e_id) ∙ e_on) on,
-                  λ t.
-                      let (other, of_x, of_a) = shared (bus_at x) (bus_at a) t in
-                      same_id all order.buses x e x_in e_in name (of_x ∙ sym of_a ∙ on) e_on ∙ e_id,
-                ));
+            buses = joined_pairs all a order.buses name j here known on;
             steps = steps_more order.steps (omega (arith, low));
             count = omega (arith, next_push, low, order.count);
           }
 
     -- what is known of a name stays, unless the lookup is on its bus
-    still_known : (name : List ℕ) (o : Option ℕ) → bus_at a ≢ Some name → IsKnown all name o → IsKnown more name o
+    pub still_known : (name : List ℕ) (o : Option ℕ) → bus_at a ≢ Some name → IsKnown all name o → IsKnown more name o
     still_known name None other none = All-push (λ b. bus_at b ≢ Some name) all a none other
     still_known name (Some id) other (k, lt, known) =
         (k, omega (arith, lt, length_push all a), λ d. subst (λ (b : Entry F). (bus_at b ≡ Some name) × (b.0 ≡ id)) (sym (get_or_append_left all (a ∷ []) d k lt)) (known d))
@@ -92,6 +82,16 @@ module _ {F : Type 0} where
     now_known : (name : List ℕ) → bus_at a ≡ Some name → IsKnown more name (Some a.0)
     now_known name on =
         (length all, omega (arith, length_push all a), λ d. subst (λ (b : Entry F). (bus_at b ≡ Some name) × (b.0 ≡ a.0)) (sym (get_or_push all a d (length all) refl)) (on, refl))
+
+    -- where a map has the id of each name, it has it with one lookup more on a bus
+    pub known_more : (name : Bor (List ℕ)) → bus_at a ≡ Some name.now → (old new : List (Bor (List ℕ) × ℕ)) → new ≡ insert_entry (λ b c. same_name b.now c.now) old name a.0
+        → ((q : List ℕ) → IsKnown all q (lookup (λ k. same_name q k.now) old)) → (q : List ℕ) → IsKnown more q (lookup (λ k. same_name q k.now) new)
+    known_more name on old new new_is known q =
+        subst (IsKnown more q) (sym (ap (λ es. lookup (λ k. same_name q k.now) es) new_is ∙ at_inserted (λ k. k.now) old name a.0 q)) (by_name (same_name q name.now) refl)
+      where
+        by_name : (b : Bool) → same_name q name.now ≡ b → IsKnown more q (cond b (Some a.0) (lookup (λ k. same_name q k.now) old))
+        by_name true e = now_known q (on ∙ ap Some (sym ((same_name-Decides q name.now).0 e)))
+        by_name false e = still_known q (lookup (λ k. same_name q k.now) old) (λ is. absurd (true≢false (sym ((same_name-Decides q name.now).1 (cc (sym is ∙ on))) ∙ e))) (known q)
 
 module _ {F : Type 0} (all : List (Entry F)) (before after : GivenIds) (given : AreGivenInOrder all before) (a : Entry F) where
   -- what the map has for a name
@@ -121,12 +121,8 @@ module _ {F : Type 0} (all : List (Entry F)) (before after : GivenIds) (given : 
     pub bus_given : AreGivenInOrder (all ++ a ∷ []) after
     bus_given = record {
       in_order = order_more (id_in name.now before.names.entries) is.id_is (given.names name.now);
-      names = λ q. subst (IsKnown (all ++ a ∷ []) q) (sym (ap (id_in q) is.names ∙ at_inserted (λ k. k.now) before.names.entries name a.0 q)) (by_name q (same_name q name.now) refl);
+      names = known_more all a name on before.names.entries after.names.entries is.names given.names;
     }
-      where
-        by_name : (q : List ℕ) (b : Bool) → same_name q name.now ≡ b → IsKnown (all ++ a ∷ []) q (cond b (Some a.0) (id_in q before.names.entries))
-        by_name q true e = now_known all a q (on ∙ ap Some (sym ((same_name-Decides q name.now).0 e)))
-        by_name q false e = still_known all a q (id_in q before.names.entries) (λ is. absurd (true≢false (sym ((same_name-Decides q name.now).1 (cc (sym is ∙ on))) ∙ e))) (given.names q)
 
 -- the ids of an AIR, with one more
 pub given_more : {F : Type 0} (all : List (Entry F)) (ids : List ℕ) (lookups : List (Lookup F)) (i id : ℕ) (l : Lookup F) (more : List ℕ) (after : GivenIds) → i < length lookups → l ≡ get_or lookups i l → length ids ≡ i → more ≡ ids ++ id ∷ []

@@ -14,7 +14,7 @@ use Rattle.batch.proofs.GivenLaws.{below_next}
 use Rattle.batch.proofs.Greatest.{each_below}
 use Rattle.batch.proofs.OneWidths.{all_assigned}
 use Rattle.batch.proofs.SharedBuses.{share, shared}
-use Rattle.batch.specs.PlanFacts.{IsPlan, all_tuple_widths, assigned, lookup_widths}
+use Rattle.batch.specs.PlanFacts.{AreAssigned, AreNumbered, IsPlan, all_tuple_widths, assigned, lookup_widths}
 use Rattle.batch.specs.Plans.{Plan}
 use Rattle.batch.specs.Traces.{batch_over}
 use Rattle.batch.specs.declared.trace.BatchTrace.{BatchTrace}
@@ -40,6 +40,16 @@ identified_is [] [] traces same as_many = refl
 identified_is (i ∷ is) (air ∷ airs) (t ∷ ts) same as_many = ap (λ rest. zip i (lookups_of air) ++ rest) (identified_is is airs ts (omega (arith, same)) (omega (arith, as_many)))
 identified_is ids airs traces same as_many = absurd (omega arith)
 
+-- ids that are given in order are below their number, and shared by bus
+pub numbered_assigned : {F : Type 0} (ids : List (List ℕ)) (airs : List (Lookups F)) (m : ℕ) → AreNumbered ids airs m → AreAssigned ids airs m
+numbered_assigned ids airs m numbered = record {
+  as_many = numbered.as_many;
+  by_bus = record {
+    buses = numbered.in_order.buses;
+    below = λ k d lt. omega (arith, below_next (assigned ids airs) k d lt, numbered.in_order.count);
+  };
+}
+
 -- A plan's ids are lawful in every batch with its lookups and ids.
 pub lawful_plan : {F : Type 0} (p : ℕ) (plan : Plan F) → IsPlan p plan → (batch : List (Instance F)) → identified batch ≡ assigned plan.ids plan.airs → AreLawfulIds plan.width plan.num_ids p batch
 lawful_plan {F} p plan facts batch same =
@@ -47,11 +57,11 @@ lawful_plan {F} p plan facts batch same =
     record {
       buses = subst (AllPairs (λ a b. (a.0 ≡ b.0) ↔ ShareBus a.1 b.1)) (sym same)
           (λ i j d before within.
-          let each = facts.numbered.in_order.buses i j d before within in
+          let each = facts.lawful.by_bus.buses i j d before within in
           let one = bus_of (get_or all i d).1.kind in
           let other = bus_of (get_or all j d).1.kind in
           (λ e. shared one other (each.0 e), λ (name, on, on_too). each.1 (share one other name on on_too)));
-      below = subst (All (λ a. a.0 < plan.num_ids)) (sym same) (λ k d lt. omega (arith, below_next all k d lt, facts.numbered.in_order.count));
+      below = subst (All (λ a. a.0 < plan.num_ids)) (sym same) facts.lawful.by_bus.below;
       few = facts.few;
       widths = subst (λ (xs : List (ℕ × Lookup F)). All (λ a. All (λ b. a.0 ≡ b.0 → HaveOneWidth a.1 b.1) xs) xs) (sym same) facts.widths;
       narrow = subst (All (λ a. IsNarrow plan.width a.1)) (sym same)

@@ -2,6 +2,7 @@ pub mod CountLaws
 pub mod GivenLaws
 pub mod Greatest
 pub mod HeightCounts
+pub mod IdCounts
 pub mod LawfulPlans
 pub mod Members
 pub mod OneWidths
@@ -11,5 +12,6 @@ pub mod PlanCalls
 pub mod PlanLaws
 pub mod ReachLaws
 pub mod Renaming
+pub mod SeenLaws
 pub mod SharedBuses
 pub mod TraceLaws

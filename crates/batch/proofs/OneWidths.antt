@@ -20,7 +20,7 @@ use Rattle.batch.proofs.Members.{of_found, of_kept}
 use Rattle.batch.proofs.SharedBuses.{Entry, one_or_shared}
 use Rattle.batch.specs.Checks.{AreLocallyEven, IsLocallyEven, bus_widths_of}
 use Rattle.batch.specs.Order.{bus_at}
-use Rattle.batch.specs.PlanFacts.{AreNumbered, assigned}
+use Rattle.batch.specs.PlanFacts.{AreAssigned, assigned}
 
 module _ {F : Type 0} where
   -- what holds of the widths on the buses of an AIR holds of those of each lookup on a bus
@@ -67,12 +67,12 @@ module _ {F : Type 0} where
 
   -- Where the widths on buses agree, and those of each local lookup, all tuples under one id have the
   -- same width.
-  pub one_widths : (ids : List (List ℕ)) (airs : List (Lookups F)) (m : ℕ) → AreNumbered ids airs m → AgreeOnWidths (bus_widths_of airs) → AreLocallyEven airs
+  pub one_widths : (ids : List (List ℕ)) (airs : List (Lookups F)) (m : ℕ) → AreAssigned ids airs m → AgreeOnWidths (bus_widths_of airs) → AreLocallyEven airs
       → All (λ a. All (λ b. a.0 ≡ b.0 → HaveOneWidth a.1 b.1) (assigned ids airs)) (assigned ids airs)
-  one_widths ids airs m numbered agree even k d lt j e within same =
+  one_widths ids airs m lawful agree even k d lt j e within same =
       let a = get_or all k d in
       let b = get_or all j e in
-      elim (one_or_shared all numbered.in_order.buses a b (Contains-get_or all k d lt) (Contains-get_or all j e within) same) [
+      elim (one_or_shared all lawful.by_bus.buses a b (Contains-get_or all k d lt) (Contains-get_or all j e within) same) [
         | inl one ↦ subst (λ (c : Entry F). HaveOneWidth a.1 c.1) one (itself a (wide k d lt) (local k d lt) (bus_at a) refl)
         | inr (name, of_a, of_b) ↦ on_one a.1 b.1 name (wide k d lt name of_a) (wide j e within name of_b)
       ]

@@ -31,13 +31,12 @@ use Rattle.lookup.specs.Packing.{is_additive}
 use Rattle.lookup.specs.declared.lookups.Lookups.{Lookups}
 use Rattle.checker.specs.Packed.{ArePacked}
 use Rattle.checker.specs.Renamed.{IsInjective, renamed}
-use Rattle.batch.proofs.GivenLaws.{below_next}
 use Rattle.batch.proofs.Greatest.{each_below, least}
 use Rattle.batch.proofs.PairedLookups.{HasBusId, after_has_id, before_has_id, bus_id, passes, passing_renamed, rename, rename_apart}
 use Rattle.batch.proofs.SharedBuses.{Entry}
 use Rattle.batch.specs.Order.{bus_at}
 use Rattle.batch.specs.Packing.{ArePackedAirs}
-use Rattle.batch.specs.PlanFacts.{AreNumbered, all_tuple_widths, assigned}
+use Rattle.batch.specs.PlanFacts.{AreAssigned, all_tuple_widths, assigned}
 use Rattle.batch.specs.Traces.{batch_over, instance_over}
 use Rattle.batch.specs.declared.trace.BatchTrace.{BatchTrace}
 
@@ -205,7 +204,7 @@ module _ {F : Type 0} (R : Ring F) (eq : F → F → Bool) where
 
   -- the renaming between a plan and that of its packed AIRs
   module _ (ids : List (List ℕ)) (airs : List (Lookups F)) (m : ℕ) (more : List (List ℕ)) (later : List (Lookups F)) (n : ℕ)
-      (numbered : AreNumbered ids airs m) (numbered_after : AreNumbered more later n) (packed : ArePackedAirs R eq airs later) where
+      (lawful : AreAssigned ids airs m) (lawful_after : AreAssigned more later n) (packed : ArePackedAirs R eq airs later) where
     abbrev xs : List (Entry F)
     xs = assigned ids airs
 
@@ -215,34 +214,34 @@ module _ {F : Type 0} (R : Ring F) (eq : F → F → Bool) where
     pub same : map bus_at (filter passes xs) ≡ map bus_at (filter passes ys)
     same =
         passing_parts bus_at (zip ids airs)
-        ∙ AllZip-same_parts AreKept (of_passing bus_at) (of_passing bus_at) same_buses (zip ids airs) (zip more later) (all_kept airs later ids more numbered.as_many numbered_after.as_many (all_keep airs later packed))
+        ∙ AllZip-same_parts AreKept (of_passing bus_at) (of_passing bus_at) same_buses (zip ids airs) (zip more later) (all_kept airs later ids more lawful.as_many lawful_after.as_many (all_keep airs later packed))
         ∙ sym (passing_parts bus_at (zip more later))
 
     pub below : All (λ b. b.0 < n) ys
-    below k d lt = omega (arith, below_next ys k d lt, numbered_after.in_order.count)
+    below = lawful_after.by_bus.below
 
     abbrev pub renaming : ℕ → ℕ
-    renaming = rename xs ys numbered.in_order.buses numbered_after.in_order.buses same n below
+    renaming = rename xs ys lawful.by_bus.buses lawful_after.by_bus.buses same n below
 
     pub renaming_apart : IsInjective renaming
-    renaming_apart = rename_apart xs ys numbered.in_order.buses numbered_after.in_order.buses same n below
+    renaming_apart = rename_apart xs ys lawful.by_bus.buses lawful_after.by_bus.buses same n below
 
     pub plan_packed : (traces : List (BatchTrace F)) → ArePacked R eq (map (renamed renaming) (batch_over ids airs traces)) (batch_over more later traces)
     plan_packed traces =
         let ids_renamed = renamed_ids renaming ids airs in
-        let many = map-map length (map renaming) ids ∙ map_same (λ i. length (map renaming i)) length (λ i. length-map i renaming) ids ∙ numbered.as_many in
-        let Has = HasBusId (bus_id xs ys numbered.in_order.buses numbered_after.in_order.buses same n below) in
-        let before = recursion_from_All (λ a. Has (renaming a.0, a.1)) xs (λ k d lt. before_has_id xs ys numbered.in_order.buses numbered_after.in_order.buses same n below (get_or xs k d) (Contains-get_or xs k d lt)) in
+        let many = map-map length (map renaming) ids ∙ map_same (λ i. length (map renaming i)) length (λ i. length-map i renaming) ids ∙ lawful.as_many in
+        let Has = HasBusId (bus_id xs ys lawful.by_bus.buses lawful_after.by_bus.buses same n below) in
+        let before = recursion_from_All (λ a. Has (renaming a.0, a.1)) xs (λ k d lt. before_has_id xs ys lawful.by_bus.buses lawful_after.by_bus.buses same n below (get_or xs k d) (Contains-get_or xs k d lt)) in
         let id = λ (c : Entry F). c.0 in
         subst (λ (batch : List (Instance F)). ArePacked R eq batch (batch_over more later traces)) (sym (batch_renamed renaming ids airs traces))
-        (plans_packed _ (zip ids_renamed airs) (zip more later) traces (all_kept airs later ids_renamed more many numbered_after.as_many (all_keep airs later packed))
+        (plans_packed _ (zip ids_renamed airs) (zip more later) traces (all_kept airs later ids_renamed more many lawful_after.as_many (all_keep airs later packed))
         (all_parts Has entries (zip ids_renamed airs) (subst (AllByRecursion Has) (sym (assigned_renamed renaming ids airs)) (all_images Has (renamed_entry renaming ids airs) xs before)))
-        (all_parts Has entries (zip more later) (recursion_from_All Has ys (λ k d lt. after_has_id xs ys numbered.in_order.buses numbered_after.in_order.buses same n below (get_or ys k d) (Contains-get_or ys k d lt))))
+        (all_parts Has entries (zip more later) (recursion_from_All Has ys (λ k d lt. after_has_id xs ys lawful.by_bus.buses lawful_after.by_bus.buses same n below (get_or ys k d) (Contains-get_or ys k d lt))))
         (sym (passing_parts id (zip ids_renamed airs))
         ∙ ap (λ t. map id (filter passes t)) (assigned_renamed renaming ids airs)
         ∙ ap (map id) (filter_images (renamed_entry renaming ids airs) passes passes (λ a. refl) xs)
         ∙ map-map id (renamed_entry renaming ids airs) (filter passes xs)
-        ∙ passing_renamed xs ys numbered.in_order.buses numbered_after.in_order.buses same n below
+        ∙ passing_renamed xs ys lawful.by_bus.buses lawful_after.by_bus.buses same n below
         ∙ passing_parts id (zip more later)))
 
   -- the widths of all tuples

@@ -1,5 +1,5 @@
 -- The checks of a plan, and how refusals are passed on.
-use Rattle.std.proofs.Common.{◌≡◌, ◌<◌, ◌≤◌, ℕ, inl, inr, List, length, map, sym, ap, ◌∙◌}
+use Rattle.std.proofs.Common.{◌≡◌, ◌<◌, ◌≤◌, ◌⊎◌, ℕ, inl, inr, List, length, map, sym, ap, ◌∙◌}
 use Rattle.lookup_model.specs.Batches.Faults.{IsOutOfMemory}
 use Rattle.lookup_model.specs.Batches.Instances.{Instance}
 use Rattle.lookup_model.specs.Batches.Refusals.{IsAirRefusal, IsWitnessRefusal}
@@ -14,23 +14,32 @@ use Rattle.lookup.specs.Lookups.{lookups_of}
 use Rattle.lookup.specs.NamedWidths.{AgreeOnWidths}
 use Rattle.lookup.specs.declared.lookups.Lookups.{Lookups}
 use Rattle.batch.proofs.OneWidths.{one_widths}
-use Rattle.batch.specs.Checks.{AreLocallyEven, IsFirstLocalMismatch, bus_widths_of}
-use Rattle.batch.specs.PlanFacts.{AreNumbered, IsPlan, message_width}
+use Rattle.batch.specs.Checks.{AreLocallyEven, IsFirstLocalMismatch, IsFirstRefusal, bus_widths_of}
+use Rattle.batch.specs.PlanFacts.{AreAssigned, IsPlan, message_width}
 use Rattle.batch.specs.Plans.{Plan}
 use Rattle.batch.specs.Refusals.{of_fault, of_lookup, refusal_at}
+use Rattle.batch.specs.declared.error.BatchError.{BatchError}
 use Rattle.batch.specs.declared.error.BatchError.TheVariants.{Lookup as OfLookup, Memory}
 
 -- where every check passes, it is a plan
-pub plan_is : {F : Type 0} (p : ℕ) (plan : Plan F) → length plan.heights ≡ length plan.airs → AgreeOnWidths (bus_widths_of plan.airs) → AreLocallyEven plan.airs → AreNumbered plan.ids plan.airs plan.num_ids
+pub plan_is : {F : Type 0} (p : ℕ) (plan : Plan F) → length plan.heights ≡ length plan.airs → AgreeOnWidths (bus_widths_of plan.airs) → AreLocallyEven plan.airs → AreAssigned plan.ids plan.airs plan.num_ids
     → plan.num_ids ≤ p → weighted_height_sum (map lookups_of plan.airs) plan.heights < p → plan.width ≡ message_width plan.airs → IsPlan p plan
-plan_is p plan heights_are agree even numbered few light width = record {
+plan_is p plan heights_are agree even lawful few light width = record {
   heights_are = heights_are;
-  numbered = numbered;
+  lawful = lawful;
   few = few;
-  widths = one_widths plan.ids plan.airs plan.num_ids numbered agree even;
+  widths = one_widths plan.ids plan.airs plan.num_ids lawful agree even;
   width = width;
   light = light;
 }
+
+-- a refusal by the first checks, whatever comes later
+pub first_refused : {F : Type 0} (airs : List (Lookups F)) (heights : List ℕ) (Later : BatchError → Type 0) (e : BatchError) → (e ≡ Memory) ⊎ IsFirstRefusal airs heights (λ _. ⊥) e → (e ≡ Memory) ⊎ IsFirstRefusal airs heights Later e
+first_refused airs heights Later e (inl memory) = inl memory
+first_refused airs heights Later e (inr (inl lengths)) = inr (inl lengths)
+first_refused airs heights Later e (inr (inr (same, inl bus))) = inr (inr (same, inl bus))
+first_refused airs heights Later e (inr (inr (same, inr (agree, inl local)))) = inr (inr (same, inr (agree, inl local)))
+first_refused airs heights Later e (inr (inr (same, inr (agree, inr (even, later))))) = absurd later
 
 -- refusals that keep their names
 widths_passed : (context : List ℕ) (width other : ℕ) (e : LookupError) → IsTupleWidths context width other e → of_lookup e ≡ OfLookup e

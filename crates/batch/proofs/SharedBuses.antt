@@ -1,6 +1,8 @@
 -- Lookups with their ids: two of them have one id exactly if they share a bus.
-use Rattle.std.proofs.Common.{◌≡◌, ◌↔◌, ◌⊎◌, ℕ, inl, inr, IsTrue, List, Option, Some, refl, sym, ap, subst₂, ◌∙◌}
-use Rattle.std.specs.List.{AllPairs, Contains}
+use Rattle.std.proofs.Common.{◌≡◌, ◌≢◌, ◌↔◌, ◌⊎◌, ◌<◌, ◌++◌, ◌∷◌, ℕ, inl, inr, IsTrue, List, [], Option, Some, get_or, length, refl, sym, ap, subst₂, ◌∙◌}
+use Rattle.std.proofs.lemmas.List.Elements.{Contains-get_or}
+use Rattle.std.proofs.lemmas.List.Quantifiers.{all_pairs_push}
+use Rattle.std.specs.List.{AllPairs, Contains, HoldsAt}
 use Rattle.lookup_model.specs.declared.types.Lookup.{Lookup}
 use Rattle.lookup_model.proofs.Names.{same_name-Decides}
 use Rattle.batch.proofs.Members.{members}
@@ -45,3 +47,24 @@ module _ {F : Type 0} (xs : List (Entry F)) (buses : AllPairs IsByBus xs) (a b :
     | inr (inl r) ↦ r.1 (share (bus_at a) (bus_at b) name of_a of_b)
     | inr (inr r) ↦ sym (r.1 (share (bus_at b) (bus_at a) name of_b of_a))
   ]
+
+-- lookups with their ids, and one more
+module _ {F : Type 0} (all : List (Entry F)) (a : Entry F) (buses : AllPairs IsByBus all) where
+  -- one that shares no bus with an earlier one, and has an id of its own
+  pub apart_pairs : ((k : ℕ) (d : Entry F) → k < length all → (get_or all k d).0 ≢ a.0) → ((k : ℕ) (d : Entry F) → k < length all → ¬ IsTrue (same_bus (bus_at (get_or all k d)) (bus_at a))) → AllPairs IsByBus (all ++ a ∷ [])
+  apart_pairs other apart = all_pairs_push IsByBus all a buses (λ k d lt. (λ same. absurd (other k d lt same), λ t. absurd (apart k d lt t)))
+
+  -- one on the bus of an earlier one, with its id
+  pub joined_pairs : (name : List ℕ) (j : ℕ) → j < length all → HoldsAt (λ b. (bus_at b ≡ Some name) × (b.0 ≡ a.0)) all j → bus_at a ≡ Some name → AllPairs IsByBus (all ++ a ∷ [])
+  joined_pairs name j here known on =
+      let e = get_or all j a in
+      let e_in = Contains-get_or all j a here in
+      let (e_on, e_id) = known a in
+      all_pairs_push IsByBus all a buses (λ k d lt.
+      let x = get_or all k d in
+      let x_in = Contains-get_or all k d lt in (
+        λ same. share (bus_at x) (bus_at a) name (same_label all buses x e x_in e_in (same ∙ sym e_id) ∙ e_on) on,
+        λ t.
+            let (other, of_x, of_a) = shared (bus_at x) (bus_at a) t in
+            same_id all buses x e x_in e_in name (of_x ∙ sym of_a ∙ on) e_on ∙ e_id,
+      ))

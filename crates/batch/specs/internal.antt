@@ -4,3 +4,4 @@ pub mod Numbering
 pub mod Pairs
 pub mod PlanBatches
 pub mod ReachProps
+pub mod Seen

@@ -8,6 +8,7 @@ ghost use Rattle.batch.specs.internal.ReachProps.{reaches_prop};
 ghost use Rattle.batch.specs.Reaches.{IsReachOf};
 ghost use Rattle.lookup.specs.Lookups.{lookups_of};
 
+use crate::assigned::are_assigned;
 use crate::error::BatchError;
 use crate::grid::{GridCount, count_grid};
 use crate::heights::{HeightSoundness, soundness_by_heights};
@@ -15,26 +16,28 @@ use crate::ids::{PlanIds, plan_ids};
 use crate::instances::{air_over, check_traces, make_batch};
 use crate::reach::{Reach, reaches_of};
 use crate::trace::BatchTrace;
-use crate::widths::{check_local_widths, widest_tuple};
+use crate::widths::{check_airs, widest_tuple};
 use checker::{
     BatchInstance, SoundnessCount, Witness, accepted_is_accepting, check_result, counted_soundness,
     generate_batch, linear_soundness, packing_keeps_batch, results_join, soundness_count,
 };
 use field::{ExtensionField, Field, Over};
 use lookup::{
-    Challenges, LogUpGadget, LookupError, LookupProtocol, Lookups, check_bus_widths,
-    check_multiplicity_height_bound, height_law,
+    Challenges, LogUpGadget, LookupError, LookupProtocol, Lookups, check_multiplicity_height_bound,
+    height_law,
 };
 use std::alloc::{AllocError, Global};
 
 /// The lookups of the AIRs of a batch with their ids, and the heights of the traces.
 ///
-/// The ids are given from 0 in the order of AIRs and lookups: a local lookup takes the next one, and
-/// a lookup on a bus that of its bus, or the next one if the bus is new. So they are lawful for
-/// challenges of `num_ids` prefixes and tuples of at most `max_message_width` elements; there are at
-/// most as many as the characteristic, and all tuples under one id have the same width. No count of
-/// queries can wrap as long as they stay within their weights: the sum of weights times heights is
-/// below the characteristic.
+/// The ids are lawful for challenges of `num_ids` prefixes and tuples of at most `max_message_width`
+/// elements: they are below `num_ids`, and two lookups have the same id exactly if they are on one bus.
+/// There are at most as many prefixes as the characteristic, and all tuples under one id have the same
+/// width. No count of queries can wrap as long as they stay within their weights: the sum of weights
+/// times heights is below the characteristic.
+///
+/// [`new`](BatchPlan::new) gives the ids itself; [`with_ids`](BatchPlan::with_ids) takes those of another
+/// prover.
 #[derive(Debug, Drop)]
 pub struct BatchPlan<F: Field> {
     airs: Vec<Lookups<F>>,
@@ -48,7 +51,9 @@ pub struct BatchPlan<F: Field> {
 }
 
 impl<F: Field> BatchPlan<F> {
-    ghost use Rattle.batch.specs.Checks.{IsPlanFor, IsPlanRefusal};
+    ghost use Rattle.batch.specs.Checks.{HaveEvenWidths, IsPlanFor, IsPlanOver, IsPlanRefusal, IsRefusalOver, IsSizeRefusal, plan_over};
+    ghost use Rattle.batch.specs.Lists.{lists_of};
+    ghost use Rattle.batch.specs.PlanFacts.{AreAssigned};
     ghost use Rattle.batch.specs.Packing.{ArePackedAirs, KeepsPlanCounts};
     ghost use Rattle.batch.specs.Grids.{CountsPlanGrid, PlanStaysWithinLinearBound, StaysWithinBound};
     ghost use Rattle.batch.specs.Heights.{BoundsAllTraces, CountsHeights, most_planned};
@@ -65,10 +70,13 @@ impl<F: Field> BatchPlan<F> {
 
     /// The plan of these AIRs, whose traces have these heights.
     ///
+    /// Its ids are given from 0 in the order of AIRs and lookups: a local lookup takes the next one, and a
+    /// lookup on a bus that of its bus, or the next one if the bus is new.
+    ///
     /// Refuses the first of these that fails:
     ///
     /// - `LengthMismatch`: there is a height for each AIR;
-    /// - `Lookup` of `BusWidthMismatch`, by [`check_bus_widths`];
+    /// - `Lookup` of `BusWidthMismatch`, by [`check_bus_widths`](lookup::check_bus_widths);
     /// - `Lookup` of `TupleWidths` with the context `air A local lookup L`: the tuples of a local
     ///   lookup have one width;
     /// - `TooManyIds`: there are at most as many ids as the characteristic;
@@ -84,17 +92,61 @@ impl<F: Field> BatchPlan<F> {
             (λ e. (e ≡ BatchError.Memory)
             ⊎ IsPlanRefusal F.CHARACTERISTIC airs.items heights.items e) }
     {
-        if heights.len() != airs.len() {
-            return Err(BatchError::LengthMismatch {
-                expected: airs.len(),
-                actual: heights.len(),
-            });
-        }
-        check_bus_widths(alloc, airs.as_slice())?;
-        check_local_widths(alloc, airs.as_slice())?;
+        check_airs(alloc, airs.as_slice(), heights.as_slice())?;
         let PlanIds { ids, count } = plan_ids(alloc, airs.as_slice())?;
-        if count as u128 > F::CHARACTERISTIC {
-            return Err(BatchError::TooManyIds { ids: count });
+        BatchPlan::of_lawful(alloc, airs, heights, ids, count)
+    }
+
+    /// The plan of these AIRs, whose traces have these heights, over these ids: a list for each AIR, with the
+    /// id of each lookup. There are prefixes for `num_ids` ids. So a witness of another prover is verified
+    /// under the ids that it was made with.
+    ///
+    /// Refuses the first of these that fails:
+    ///
+    /// - `LengthMismatch` and `Lookup`, as [`new`](BatchPlan::new) does: the lengths, and the widths of tuples;
+    /// - `UnlawfulIds`: there is an id for each lookup of each AIR, all are below `num_ids`, and two lookups
+    ///   have the same id exactly if they are on one bus, so each local lookup has its own;
+    /// - `TooManyIds`: `num_ids` is at most the characteristic;
+    /// - `Lookup` of `MultiplicityHeightBoundExceeded`, by [`check_multiplicity_height_bound`].
+    ///
+    /// Also fails when out of memory. What it is given is dropped if it is refused.
+    pub fn with_ids(
+        alloc: Global,
+        airs: Vec<Lookups<F>>,
+        heights: Vec<usize>,
+        ids: Vec<Vec<usize>>,
+        num_ids: usize,
+    ) -> Result<Self, BatchError>
+        ensures { MatchResult result
+            (λ plan. IsPlanOver airs.items heights.items (lists_of ids.items) num_ids (plan_of plan))
+            (λ e. (e ≡ BatchError.Memory)
+            ⊎ IsRefusalOver F.CHARACTERISTIC airs.items heights.items (lists_of ids.items) num_ids e) }
+    {
+        check_airs(alloc, airs.as_slice(), heights.as_slice())?;
+        if !are_assigned(alloc, airs.as_slice(), ids.as_slice(), num_ids)? {
+            return Err(BatchError::UnlawfulIds);
+        }
+        BatchPlan::of_lawful(alloc, airs, heights, ids, num_ids)
+    }
+
+    /// The plan over ids that are lawful, if there are not too many and the heights are not too great.
+    fn of_lawful(
+        alloc: Global,
+        airs: Vec<Lookups<F>>,
+        heights: Vec<usize>,
+        ids: Vec<Vec<usize>>,
+        num_ids: usize,
+    ) -> Result<Self, BatchError>
+        requires lengths { length heights.items ≡ length airs.items }
+        requires widths { HaveEvenWidths airs.items }
+        requires ids { AreAssigned (lists_of ids.items) airs.items num_ids }
+        ensures { MatchResult result
+            (λ plan. plan_of plan ≡ plan_over airs.items heights.items (lists_of ids.items) num_ids)
+            (λ e. (e ≡ BatchError.Memory)
+            ⊎ IsSizeRefusal airs.items heights.items F.CHARACTERISTIC num_ids e) }
+    {
+        if num_ids as u128 > F::CHARACTERISTIC {
+            return Err(BatchError::TooManyIds { ids: num_ids });
         }
         check_multiplicity_height_bound(airs.as_slice(), heights.as_slice())?;
         let reaches = reaches_of(alloc, airs.as_slice())?;
@@ -104,7 +156,7 @@ impl<F: Field> BatchPlan<F> {
             heights,
             ids,
             max_message_width,
-            num_ids: count,
+            num_ids,
             reaches,
         })
     }
@@ -257,9 +309,10 @@ impl<F: Field> BatchPlan<F> {
     /// function that does nothing.
     ///
     /// Let the lookups of each AIR be packed, so that they keep what `pack_same_bus` keeps, or be as they
-    /// were. Both plans give ids in the order of their lookups, which packing changes. Still, over traces
-    /// that fit this plan both batches have as many distinct messages, and as many of them do not balance.
-    /// Their tuples are as wide, so where `soundness_count` answers over both plans, the numbers are the same.
+    /// were. The plans may have other ids: `new` gives them in the order of lookups, which packing changes.
+    /// Still, over traces that fit this plan both batches have as many distinct messages, and as many of them
+    /// do not balance. Their tuples are as wide, so where `soundness_count` answers over both plans, the
+    /// numbers are the same.
     pub fn packing_keeps_counts<EF: ExtensionField<F>>(&self, packed: &BatchPlan<F>)
         ensures counts { ArePackedAirs F.ring F.eq self.now.airs.items packed.now.airs.items
             → KeepsPlanCounts ⟦<EF as Over<F>>⟧.fields (plan_of self.now) (plan_of packed.now) }

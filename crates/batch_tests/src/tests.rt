@@ -1,6 +1,7 @@
 //! What the tests share: sets of lookups, traces, and plans of them.
 mod counts;
 mod example;
+mod given_ids;
 mod grids;
 mod numbering;
 mod proving;
@@ -84,6 +85,28 @@ fn set<F: Field>(rt: &impl Abort, alloc: Global, shapes: &[Shape<'_>], weight: u
     Lookups::from_records(alloc, records).expect(rt, "well formed")
 }
 
+/// AIRs with such sets of lookups.
+fn airs_of<F: Field>(
+    rt: &impl Abort,
+    alloc: Global,
+    sets: &[&[Shape<'_>]],
+    weight: u64,
+) -> Vec<Lookups<F>> {
+    let mut airs = Vec::new(alloc);
+    for shapes in sets {
+        airs.push(set(rt, alloc, shapes, weight))
+            .expect(rt, "memory");
+    }
+    airs
+}
+
+/// A list of these numbers.
+fn list_of(rt: &impl Abort, alloc: Global, numbers: &[usize]) -> Vec<usize> {
+    let mut list = Vec::new(alloc);
+    list.extend_from_slice(numbers).expect(rt, "memory");
+    list
+}
+
 /// The plan of sets of such lookups.
 fn plan<F: Field>(
     rt: &impl Abort,
@@ -92,14 +115,8 @@ fn plan<F: Field>(
     weight: u64,
     heights: &[usize],
 ) -> Result<BatchPlan<F>, BatchError> {
-    let mut airs = Vec::new(alloc);
-    for shapes in sets {
-        airs.push(set(rt, alloc, shapes, weight))
-            .expect(rt, "memory");
-    }
-    let mut planned = Vec::new(alloc);
-    planned.extend_from_slice(heights).expect(rt, "memory");
-    BatchPlan::new(alloc, airs, planned)
+    let airs = airs_of(rt, alloc, sets, weight);
+    BatchPlan::new(alloc, airs, list_of(rt, alloc, heights))
 }
 
 /// A matrix of these numbers, row after row.

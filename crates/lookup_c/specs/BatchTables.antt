@@ -11,7 +11,7 @@ use Rattle.lookup_model.specs.declared.types.Lookup.{Lookup}
 use Rattle.lookup.specs.Lookups.{lookups_of}
 use Rattle.lookup.specs.declared.lookups.Lookups.{Lookups}
 use Rattle.batch.specs.Checks.{HaveEvenWidths, IsPlanRefusal}
-use Rattle.batch.specs.PlanFacts.{IsPlan}
+use Rattle.batch.specs.PlanFacts.{AreNumbered, IsPlan}
 use Rattle.batch.specs.Plans.{Plan}
 use Rattle.batch.specs.Runs.{Run, run_of}
 use Rattle.batch.specs.Traces.{view_of}
@@ -51,12 +51,14 @@ IsSetsOfTablesRefusal p airs fault = (fault ≡ Memory) ⊎ HasFirstFault (λ ai
 abbrev pub heights_of_tables : List Air → List ℕ
 heights_of_tables airs = map (λ air. air.height) airs
 
--- The plan of the AIRs: of the lookups that their tables encode, and of their heights.
+-- The plan of the AIRs: of the lookups that their tables encode, and of their heights. Its ids are the first
+-- numbers, given in order.
 pub record IsPlanOfTables {p : ℕ} (airs : List Air) (plan : Plan (Residue p)) : Type 0 where
   pub sets : AreSetsOfTables airs plan.airs
   pub heights : plan.heights ≡ heights_of_tables airs
   pub facts : IsPlan p plan
   pub even : HaveEvenWidths plan.airs
+  pub numbered : AreNumbered plan.ids plan.airs plan.num_ids
 
 -- The refusal of the tables, or of the plan of what they encode; or memory runs out.
 abbrev pub IsPlanOfTablesRefusal : ℕ → List Air → Fault → Type 0

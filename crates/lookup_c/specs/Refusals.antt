@@ -116,6 +116,7 @@ batch_refusal batch_error.Memory = of_code code.OutOfMemory
 batch_refusal (batch_error.Lookup error) = lookup_refusal 0 error
 batch_refusal (batch_error.LengthMismatch e a) = record (of_code code.BadLength) { part = part_number part.Batch; expected = e; actual = a }
 batch_refusal (batch_error.TooManyIds ids) = record (of_code code.TooManyIds) { actual = ids }
+batch_refusal batch_error.UnlawfulIds = of_code code.Unmet
 batch_refusal (batch_error.TraceMismatch air) = record (of_code code.TraceMismatch) { air = air }
 batch_refusal batch_error.RepeatedChallenge = of_code code.RepeatedChallenge
 batch_refusal (batch_error.Air air error) = lookup_refusal air error

@@ -212,6 +212,7 @@ fn batch_refusal(error: &BatchError) -> Refusal
             actual: *ids,
             ..Refusal::of(Code::TooManyIds)
         },
+        BatchError::UnlawfulIds => Refusal::of(Code::Unmet),
         BatchError::TraceMismatch { air } => Refusal {
             air: *air,
             ..Refusal::of(Code::TraceMismatch)

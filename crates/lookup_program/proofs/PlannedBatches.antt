@@ -53,10 +53,10 @@ shown_is traces own mains same made are shown shown_same mains_are =
     ap (map view_of) shown_same ∙ are ∙ ap (map traces_of_main) (same ∙ mains_are) ∙ map-map traces_of_main (λ t. t.main) traces
 
 module _ {F K : Type 0} (E : Extension F K) (machine : Machine) (alpha beta : K) (input : Matrix F) (traces : List (AirTrace F)) (all : AllZip (IsTraceOf E.base E.base_eq input) (airs_of machine) traces)
-    (p : ℕ) (plan : Plan F) (facts : IsPlan p plan) (airs_are : plan.airs ≡ sets traces) (heights_are : plan.heights ≡ heights traces) where
+    (p : ℕ) (plan : Plan F) (facts : IsPlan p plan) (numbered : AreNumbered plan.ids plan.airs plan.num_ids) (airs_are : plan.airs ≡ sets traces) (heights_are : plan.heights ≡ heights traces) where
   -- its ids are 0, and there is one
   zeros : (plan.ids ≡ map (λ t. ids) traces) × (plan.num_ids ≡ 1)
-  zeros = machine_ids E.base E.base_eq input machine traces all plan.ids plan.num_ids (subst (λ (ls : List (Lookups F)). AreNumbered plan.ids ls plan.num_ids) airs_are facts.numbered)
+  zeros = machine_ids E.base E.base_eq input machine traces all plan.ids plan.num_ids (subst (λ (ls : List (Lookups F)). AreNumbered plan.ids ls plan.num_ids) airs_are numbered)
 
   -- its table is made for tuples of one value
   one : plan.width ≡ 1

@@ -1,5 +1,5 @@
 -- Why there is no plan of a memory check.
-use Rattle.std.proofs.Common.{◌≡◌, ◌≤◌, ◌⊎◌, inl, inr, ℕ, List, [], ◌∷◌, Result, Ok, Err, IfErr, MatchResult, sym, ap, subst, ◌∙◌, arith}
+use Rattle.std.proofs.Common.{◌≡◌, ◌≤◌, ◌⊎◌, inl, inr, ℕ, List, [], ◌∷◌, Result, Ok, Err, IfErr, IfOk, MatchResult, sym, ap, subst, ◌∙◌, arith}
 use Rattle.air.specs.Cell.{IsCellsRefusal}
 use Rattle.expressions.specs.declared.base_expression.SymbolicExpression.{SymbolicExpression}
 use Rattle.expressions.specs.declared.error.AirError.{AirError}
@@ -19,6 +19,11 @@ use Rattle.batch.specs.declared.error.BatchError.{BatchError}
 use Rattle.batch.specs.declared.error.BatchError.TheVariants.{Lookup as OfLookup, Memory}
 use Rattle.memory_check.specs.Memory.{SetsFit, IsLookupsRefusal, IsMemoryPlanRefusal}
 use Rattle.memory_check.specs.Pushes.{AcceptedAll, IsRefusedAfter}
+
+-- what holds of a plan, if there is one
+pub if_planned : {T E : Type 0} (r : Result T E) (P P' : T → Type 0) (Q : E → Type 0) → ((x : T) → P x → P' x) → MatchResult r P Q → IfOk r P'
+if_planned (Ok x) P P' Q weaker held = weaker x held
+if_planned (Err e) P P' Q weaker held = tt
 
 -- the refusal of a local lookup is passed on
 passed_on : {F : Type 0} (tuples : List (Tuple (SymbolicExpression F))) (e : LookupError) → IsLocalRefusal tuples e → of_lookup e ≡ OfLookup e

@@ -1,5 +1,7 @@
 //! The memory check: from its AIRs to a plan, and from traces to an accepted witness.
 ghost use Rattle.std.specs.Prelude.{◌≡◌, [], ◌∷◌, IfErr, IfOk, OnOk};
+ghost use Rattle.batch.specs.Lists.{lists_of};
+ghost use Rattle.batch.specs.PlanFacts.{AreNumbered};
 ghost use Rattle.batch.specs.Runs.{plan_of};
 ghost use Rattle.batch.specs.Traces.{traces_of_main, view_of};
 ghost use Rattle.memory_check.specs.Memory.{SetsFit, IsAcceptedMemory, IsLookupsRefusal, IsMemoryPlanRefusal, IsMemoryRefusal, mains_of};
@@ -24,6 +26,7 @@ pub struct MemoryTraces<F> {
 
 /// The plan of a memory check whose traces have these heights: of the accesses, of the boundary and
 /// of the gaps. Its lookups are those that the AIRs push, which fit traces of 5, 4 and 2 columns.
+/// Their ids are given in order.
 ///
 /// Refuses heights at which a count could wrap; see [`BatchPlan::new`]. Also fails when out of
 /// memory. No clause rules out that a local lookup or another check of the plan is refused; tests
@@ -36,6 +39,8 @@ pub fn memory_plan<F: Field, EF: ExtensionField<F>>(
 ) -> Result<BatchPlan<F>, BatchError>
     ensures fit { IfOk result (λ plan. SetsFit plan.airs.items) }
     ensures heights { IfOk result (λ plan. plan.heights.items ≡ accesses ∷ boundary ∷ gaps ∷ []) }
+    ensures ids { IfOk result (λ plan. AreNumbered (lists_of plan.ids.items) plan.airs.items
+        plan.num_ids) }
     ensures refused { IfErr result (IsMemoryPlanRefusal F F.CHARACTERISTIC
         (accesses ∷ boundary ∷ gaps ∷ [])) }
 {

@@ -46,6 +46,28 @@ fn make_plans(alloc: Global, out: &mut Out) {
     }
 }
 
+/// The call that makes a plan of the lookups over these ids, of which there are two.
+fn make_given(alloc: Global, out: &mut Out, ids: &[usize]) -> Option<()> {
+    let set = set(alloc, out, LOOKUPS)?;
+    let airs = input(out, alone(alloc, set))?;
+    let two: &[usize] = &[2];
+    let heights = input(out, Vec::from_slice(alloc, two))?;
+    let own = input(out, Vec::from_slice(alloc, ids))?;
+    let ids = input(out, alone(alloc, own))?;
+    show(
+        out,
+        "BatchPlan::with_ids",
+        BatchPlan::with_ids(alloc, airs, heights, ids, 2),
+    );
+    Some(())
+}
+
+/// The calls over ids that are lawful, and over those where a bus has two.
+fn make_all_given(alloc: Global, out: &mut Out) {
+    let _ = make_given(alloc, out, &[1, 0, 0, 0]);
+    let _ = make_given(alloc, out, &[1, 0, 1, 0]);
+}
+
 /// A main trace alone.
 fn main_alone(main: &RowMajorMatrix<F7>) -> BatchTrace<'_, F7> {
     BatchTrace {
@@ -125,6 +147,8 @@ fn on_all(alloc: Global, out: &mut Out, plan: &BatchPlan<F7>) {
 pub fn batch_plans(alloc: Global, out: &mut Out) {
     make_plans(alloc, out);
     make_plans(alloc, out);
+    make_all_given(alloc, out);
+    make_all_given(alloc, out);
     if let Some(made) = plan_of(alloc, out, LOOKUPS, &[2]) {
         if let Some(plan) = input(out, made) {
             on_all(alloc, out, &plan);

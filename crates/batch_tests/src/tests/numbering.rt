@@ -89,12 +89,12 @@ fn the_width_of_the_widest_tuple(rt: HostRuntime) {
 }
 
 /// The number after this one in a sequence that looks like chance.
-fn next(number: u32) -> u32 {
+pub(super) fn next(number: u32) -> u32 {
     number.wrapping_mul(1664525).wrapping_add(1013904223)
 }
 
 /// What a number draws by its upper half: no name, or one of five.
-fn name_of(number: u32) -> Option<&'static str> {
+pub(super) fn name_of(number: u32) -> Option<&'static str> {
     match (number >> 16) % 6 {
         0 => None,
         1 => Some("a"),

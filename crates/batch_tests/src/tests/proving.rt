@@ -9,7 +9,7 @@ use std::alloc::Global;
 use std::process::Abort;
 
 /// The set of the lookup that reads cell 0, and provides cell 1 as often as cell 2 says.
-fn range_set<F: Field>(rt: &impl Abort, alloc: Global) -> Lookups<F> {
+pub(super) fn range_set<F: Field>(rt: &impl Abort, alloc: Global) -> Lookups<F> {
     let mut elements = Vec::new(alloc);
     for column in 0..2 {
         // over any field no size of an array is known, so the tuple grows by a push
@@ -95,7 +95,7 @@ fn flags_of_a_group(rt: HostRuntime) {
 }
 
 /// The rows of the range machine of which each provides what the other reads.
-const BALANCED: [u32; 6] = [3, 4, 1, 4, 3, 1];
+pub(super) const BALANCED: [u32; 6] = [3, 4, 1, 4, 3, 1];
 
 /// At the prefix 0 the fractions of these rows are 4 and 3.
 #[test]

@@ -9,12 +9,12 @@ use matrix::RowMajorMatrix;
 use std::alloc::Global;
 use std::process::Abort;
 
-fn text(rt: &impl Abort, alloc: Global, name: &str) -> String {
+pub(super) fn text(rt: &impl Abort, alloc: Global, name: &str) -> String {
     String::from_str(alloc, name).expect(rt, "memory")
 }
 
 /// The refusal of weights times heights.
-fn heavy(sum: u128, bits: usize) -> BatchError {
+pub(super) fn heavy(sum: u128, bits: usize) -> BatchError {
     BatchError::Lookup(LookupError::MultiplicityHeightBoundExceeded {
         weighted_height_sum: sum,
         field_bits: bits,
@@ -253,6 +253,7 @@ fn texts_of_refusals(rt: HostRuntime) {
         BatchError::TooManyIds { ids: 8 },
         "8 ids exceed the field characteristic",
     );
+    is_written(&rt, alloc, BatchError::UnlawfulIds, "ids are not lawful");
     is_written(
         &rt,
         alloc,

@@ -21,7 +21,7 @@ returns-in_err-witness g c =
     let plan = c.in_ok-plan.plan in
     let shown = shown_is c.args.traces.items c.as_slice.result.now c.in_ok-lookups.field-0.mains.items c.as_slice.ensures.value c.in_ok-traces.traces.items c.in_ok-traces.ensures c.as_slice-2.result.now c.as_slice-2.ensures.value c.in_ok-lookups.ensures.1 in
     rw (p.1, p.2) (refused E c.args.machine c.args.challenges.0 c.args.challenges.1 c.args.input.now c.args.traces.items c.requires.traces
-    g.F.PrimeCharacteristicRing.CHARACTERISTIC (plan_of plan) plan.facts (c.in_ok-plan.ensures.0 ∙ c.in_ok-lookups.ensures.0) (c.in_ok-plan.ensures.1 ∙ c.in_ok-lookups.ensures.2)
+    g.F.PrimeCharacteristicRing.CHARACTERISTIC (plan_of plan) plan.facts c.in_ok-plan.ensures.numbered (c.in_ok-plan.ensures.airs_are ∙ c.in_ok-lookups.ensures.0) (c.in_ok-plan.ensures.heights_are ∙ c.in_ok-lookups.ensures.2)
     _ shown c.requires.width c.requires.rows _ c.in_err-witness.ensures.answer)
 
 pub returns : goal.returns
@@ -30,5 +30,5 @@ returns g c =
     let plan = c.in_ok-plan.plan in
     let shown = shown_is c.args.traces.items c.as_slice.result.now c.in_ok-lookups.field-0.mains.items c.as_slice.ensures.value c.in_ok-traces.traces.items c.in_ok-traces.ensures c.as_slice-2.result.now c.as_slice-2.ensures.value c.in_ok-lookups.ensures.1 in
     proved E c.args.machine c.args.challenges.0 c.args.challenges.1 c.args.input.now c.args.traces.items c.requires.traces
-    g.F.PrimeCharacteristicRing.CHARACTERISTIC (plan_of plan) plan.facts (c.in_ok-plan.ensures.0 ∙ c.in_ok-lookups.ensures.0) (c.in_ok-plan.ensures.1 ∙ c.in_ok-lookups.ensures.2)
+    g.F.PrimeCharacteristicRing.CHARACTERISTIC (plan_of plan) plan.facts c.in_ok-plan.ensures.numbered (c.in_ok-plan.ensures.airs_are ∙ c.in_ok-lookups.ensures.0) (c.in_ok-plan.ensures.heights_are ∙ c.in_ok-lookups.ensures.2)
     _ shown c.in_ok-witness.witness c.in_ok-witness.ensures.answer

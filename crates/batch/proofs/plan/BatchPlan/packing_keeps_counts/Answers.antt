@@ -10,13 +10,13 @@ returns-clause-counts g c = λ packed traces fit.
     let after = plan_of c.args.packed.now in
     let R = g.F.PrimeCharacteristicRing.ring in
     let eq = g.F.PartialEq.eq in
-    let numbered = c.args.self.now.facts.numbered in
-    let renumbered = c.args.packed.now.facts.numbered in
+    let lawful = c.args.self.now.facts.lawful in
+    let lawful_after = c.args.packed.now.facts.lawful in
     c.packing_keeps_batch.ensures.renumbered
-    (renaming R eq before.ids before.airs before.num_ids after.ids after.airs after.num_ids numbered renumbered packed)
-    (renaming_apart R eq before.ids before.airs before.num_ids after.ids after.airs after.num_ids numbered renumbered packed)
+    (renaming R eq before.ids before.airs before.num_ids after.ids after.airs after.num_ids lawful lawful_after packed)
+    (renaming_apart R eq before.ids before.airs before.num_ids after.ids after.airs after.num_ids lawful lawful_after packed)
     _ _ (batch_fits g.F.PrimeCharacteristicRing.CHARACTERISTIC before c.args.self.now.facts traces fit)
-    (plan_packed R eq before.ids before.airs before.num_ids after.ids after.airs after.num_ids numbered renumbered packed traces)
+    (plan_packed R eq before.ids before.airs before.num_ids after.ids after.airs after.num_ids lawful lawful_after packed traces)
 
 pub returns-clause-width : goal.returns-clause-width
 returns-clause-width g c = λ packed.
