@@ -15,14 +15,14 @@ use Rattle.lookup_tables.specs.declared.tables.Tables.{Tables}
 use Rattle.lookup_tables.specs.declared.traces.ReadTraces.{ReadTraces}
 use Rattle.lookup_tables.specs.declared.traces.Traces.{Traces}
 use Rattle.matrix.specs.Matrix.{Matrix}
-use Rattle.lookup_c.specs.Generate.{AreGeneratedNumbers, CallGeneratesOver, GenerateFits, IsFirstGenerateFault, IsGenerateLookupsRefusal, LacksGenerateRoom}
+use Rattle.lookup_c.specs.Generate.{AreGeneratedNumbers, CallGeneratesOver, GenerateFits, HasOtherGenerateRoom, IsFirstGenerateFault, IsGenerateLookupsRefusal, LacksGenerateRoom}
 use Rattle.lookup_c.specs.Generate as one_air
 use Rattle.lookup_c.specs.Inputs.{AreInputElements, view_of_read}
 use Rattle.lookup_c.specs.declared.fault.Fault.{Fault}
 use Rattle.lookup_c.specs.declared.generate.Generated.{Generated}
 use Rattle.lookup_c.specs.declared.outputs.Terminal.{Terminal}
 use Rattle.lookup_c.specs.internal.Faults.{IsLookupFault}
-use Rattle.lookup_c.specs.internal.Generate.{AreNumbersOfGenerated, IsNotWritten}
+use Rattle.lookup_c.specs.internal.Generate.{AreNumbersOfGenerated}
 use Rattle.lookup_c.proofs.BatchLaws.{decoded}
 
 module _ {p : ℕ} (positive : 0 < p) (E : Extension (Residue p) (Quartic (Residue p))) (tables : Tables) (traces : Traces) (answer : Result (Generated (Quartic (Residue p))) Fault) (lookups : List (Lookup (Residue p))) (read : ReadTraces (Residue p)) (challenges : List (Quartic (Residue p))) (say : TablesEncode tables lookups)
@@ -55,22 +55,17 @@ module _ {F K : Type 0} (E : Extension F K) (seen traces : AirTraces F) (lookups
       by_case (inr other) (inl memory) = absurd (other.0 memory)
       by_case (inr other) (inr first) = inr (error, other.1, record { fit = fitting.fit; first = first })
 
-module _ {p : ℕ} (Makes : Matrix (Quartic (Residue p)) → Option (LookupTerminal (Quartic (Residue p))) → Type 0) (Refuses : Fault → Type 0) (answer : Result (Generated (Quartic (Residue p))) Fault) (over : MatchResult answer (λ g. Makes g.auxiliary g.terminal) Refuses) where
-  -- what holds of an answer that is another one
-  at : (other : Result (Generated (Quartic (Residue p))) Fault) → answer ≡ other → MatchResult other (λ g. Makes g.auxiliary g.terminal) Refuses
-  at other is = subst (λ (a : Result (Generated (Quartic (Residue p))) Fault). MatchResult a (λ g. Makes g.auxiliary g.terminal) Refuses) is over
-
-  -- the numbers of what was generated
-  pub numbers_of_generated : (cells : List (List ℕ)) (ending : Terminal) → AreNumbersOfGenerated answer cells ending → AreGeneratedNumbers Makes cells ending
-  numbers_of_generated cells ending are = record {
-    auxiliary = are.made.auxiliary;
-    terminal = are.made.terminal;
-    generates = at _ are.is;
-    cells_are = are.cells_are;
-    ending_is = are.ending_is;
-  }
-
-  -- why it is not written
-  pub not_written : (room : ℕ) (fault : Fault) → IsNotWritten answer room fault → Refuses fault ⊎ LacksGenerateRoom Makes room fault
-  not_written room fault (inl is) = inl (at _ is)
-  not_written room fault (inr (made, is, other)) = inr (made.auxiliary, made.terminal, at _ is, other)
+-- what is written of what was generated is its numbers, unless there is not room for exactly its cells
+pub numbers_of_generated : {p : ℕ} (Makes : Matrix (Quartic (Residue p)) → Option (LookupTerminal (Quartic (Residue p))) → Type 0) (Refuses : Fault → Type 0) (made : Generated (Quartic (Residue p))) → Makes made.auxiliary made.terminal
+    → {T : Type 0} (room : ℕ) (answer : Result T Fault) (cells : List (List ℕ)) (ending : Terminal) → MatchResult answer (λ _. AreNumbersOfGenerated made cells ending) (HasOtherGenerateRoom made.auxiliary room)
+    → MatchResult answer (λ _. AreGeneratedNumbers Makes cells ending) (λ fault. Refuses fault ⊎ LacksGenerateRoom Makes room fault)
+numbers_of_generated Makes Refuses made is room answer cells ending written =
+    MatchResult-weaker answer written
+    (λ _ are. record {
+      auxiliary = made.auxiliary;
+      terminal = made.terminal;
+      generates = is;
+      cells_are = are.cells_are;
+      ending_is = are.ending_is;
+    })
+    (λ fault other. inr (made.auxiliary, made.terminal, is, other))

@@ -12,6 +12,7 @@ use Rattle.lookup_tables.specs.declared.traces.TraceFault.TheVariants as trace_f
 use Rattle.lookup_c.specs.Codes.{code_number, part_number, part_of, record_fault_number}
 use Rattle.lookup_c.specs.declared.codes.Code.{Code}
 use Rattle.lookup_c.specs.declared.codes.Code.TheVariants as code
+use Rattle.lookup_c.specs.declared.codes.Part.{Part}
 use Rattle.lookup_c.specs.declared.codes.Part.TheVariants as part
 use Rattle.lookup_c.specs.declared.codes.RecordFault.{RecordFault}
 use Rattle.lookup_c.specs.declared.codes.RecordFault.TheVariants as record_fault
@@ -66,6 +67,30 @@ refusal_fields code.DegreeOverflow r = record (of_code code.DegreeOverflow) { ai
 refusal_fields code.Unmet r = record (of_code code.Unmet) { air = r.air }
 refusal_fields c r = of_code c
 
+-- the refusal of an AIR, with this code and no other fields
+abbrev pub of_air : Code → ℕ → CodedRefusal
+of_air c a = record (of_code c) { air = a }
+
+-- the refusal of a lookup of an AIR on a row
+abbrev pub on_row : Code → ℕ → ℕ → ℕ → CodedRefusal
+on_row c a r l = record (of_code c) { air = a; row = r; lookup = l }
+
+-- the refusal of a size that is not the one that is expected
+abbrev pub unexpected : Code → ℕ → ℕ → CodedRefusal
+unexpected c e a = record (of_code c) { expected = e; actual = a }
+
+-- the refusal of a number of a part
+abbrev pub bad_number : Part → ℕ → ℕ → CodedRefusal
+bad_number p a i = record (of_code code.BadNumber) { part = part_number p; air = a; row = i }
+
+-- the refusal of the length of a part
+abbrev pub bad_length : Part → ℕ → ℕ → CodedRefusal
+bad_length p e a = record (of_code code.BadLength) { part = part_number p; expected = e; actual = a }
+
+-- the refusal of the rows of a part
+abbrev pub bad_rows : Code → Part → ℕ → CodedRefusal
+bad_rows c p a = record (of_code c) { part = part_number p; air = a }
+
 -- the refusal of a record of an AIR, for what is wrong with it and not where
 abbrev pub bad_table : ℕ → ℕ → RecordFault → CodedRefusal
 bad_table a l fault = record (of_code code.BadTable) { part = record_fault_number fault; air = a; lookup = l }
@@ -85,39 +110,44 @@ table_refusal a l table_fault.TooManyNodesWritten = bad_table a l record_fault.L
 -- the refusal of the traces of an AIR
 abbrev pub trace_refusal : ℕ → TraceFault → CodedRefusal
 trace_refusal a trace_fault.Memory = of_code code.OutOfMemory
-trace_refusal a (trace_fault.Large p i) = record (of_code code.BadNumber) { part = part_number (part_of p); air = a; row = i }
-trace_refusal a (trace_fault.Ragged p) = record (of_code code.NoWholeRows) { part = part_number (part_of p); air = a }
+trace_refusal a (trace_fault.Large p i) = bad_number (part_of p) a i
+trace_refusal a (trace_fault.Ragged p) = bad_rows code.NoWholeRows (part_of p) a
+
+-- the refusal of a witness, at the AIR that it names
+abbrev pub witness_refusal : LookupError → CodedRefusal
+witness_refusal (lookup_error.TerminalPresenceMismatch air e a) = record (of_air code.TerminalPresence air) { expected = from_bool e; actual = from_bool a }
+witness_refusal (lookup_error.PermutationWidthMismatch air e) = record (of_air code.AuxiliaryWidth air) { expected = e }
+witness_refusal (lookup_error.PermutationHeightMismatch air) = of_air code.AuxiliaryHeight air
+witness_refusal (lookup_error.ConstraintFailed air r) = on_row code.ConstraintFailed air r 0
+witness_refusal lookup_error.TerminalSumNonZero = of_code code.TerminalSum
+witness_refusal error = of_code code.Unmet
 
 -- the refusal of the lookup layer, at this AIR unless it names one
 abbrev pub lookup_refusal : ℕ → LookupError → CodedRefusal
 lookup_refusal at lookup_error.Memory = of_code code.OutOfMemory
-lookup_refusal at (lookup_error.VanishingDenominator r l) = record (of_code code.VanishingDenominator) { air = at; row = r; lookup = l }
-lookup_refusal at (lookup_error.FlagNotBoolean r l) = record (of_code code.FlagNotBoolean) { air = at; row = r; lookup = l }
-lookup_refusal at (lookup_error.FlagsNotExclusive r l) = record (of_code code.FlagsNotExclusive) { air = at; row = r; lookup = l }
-lookup_refusal at (lookup_error.BadRecord l) = record (of_code code.MalformedLookup) { air = at; lookup = l }
-lookup_refusal at (lookup_error.BusWidthMismatch bus e a) = record (of_code code.BusWidths) { expected = e; actual = a }
-lookup_refusal at (lookup_error.TupleWidths context e a) = record (of_code code.TupleWidths) { expected = e; actual = a }
+lookup_refusal at (lookup_error.VanishingDenominator r l) = on_row code.VanishingDenominator at r l
+lookup_refusal at (lookup_error.FlagNotBoolean r l) = on_row code.FlagNotBoolean at r l
+lookup_refusal at (lookup_error.FlagsNotExclusive r l) = on_row code.FlagsNotExclusive at r l
+lookup_refusal at (lookup_error.BadRecord l) = on_row code.MalformedLookup at 0 l
+lookup_refusal at (lookup_error.BusWidthMismatch bus e a) = unexpected code.BusWidths e a
+lookup_refusal at (lookup_error.TupleWidths context e a) = unexpected code.TupleWidths e a
 lookup_refusal at (lookup_error.MultiplicityHeightBoundExceeded sum bits) = of_code code.HeightBound
-lookup_refusal at (lookup_error.TerminalPresenceMismatch air e a) = record (of_code code.TerminalPresence) { air = air; expected = from_bool e; actual = from_bool a }
-lookup_refusal at (lookup_error.PermutationWidthMismatch air e) = record (of_code code.AuxiliaryWidth) { air = air; expected = e }
-lookup_refusal at (lookup_error.PermutationHeightMismatch air) = record (of_code code.AuxiliaryHeight) { air = air }
-lookup_refusal at (lookup_error.ConstraintFailed air r) = record (of_code code.ConstraintFailed) { air = air; row = r }
-lookup_refusal at lookup_error.TerminalSumNonZero = of_code code.TerminalSum
 lookup_refusal at lookup_error.CountOverflow = of_code code.CountOverflow
-lookup_refusal at lookup_error.CountWeightOverflow = record (of_code code.WeightOverflow) { air = at }
-lookup_refusal at lookup_error.DegreeOverflow = record (of_code code.DegreeOverflow) { air = at }
-lookup_refusal at lookup_error.CommitmentMismatch = record (of_code code.Unmet) { air = at }
-lookup_refusal at (lookup_error.PermutationLengthMismatch air) = record (of_code code.Unmet) { air = at }
-lookup_refusal at (lookup_error.Air error) = record (of_code code.Unmet) { air = at }
+lookup_refusal at lookup_error.CountWeightOverflow = of_air code.WeightOverflow at
+lookup_refusal at lookup_error.DegreeOverflow = of_air code.DegreeOverflow at
+lookup_refusal at lookup_error.CommitmentMismatch = of_air code.Unmet at
+lookup_refusal at (lookup_error.PermutationLengthMismatch air) = of_air code.Unmet at
+lookup_refusal at (lookup_error.Air error) = of_air code.Unmet at
+lookup_refusal at error = witness_refusal error
 
 -- the refusal of a call on a plan
 abbrev pub batch_refusal : BatchError → CodedRefusal
 batch_refusal batch_error.Memory = of_code code.OutOfMemory
 batch_refusal (batch_error.Lookup error) = lookup_refusal 0 error
-batch_refusal (batch_error.LengthMismatch e a) = record (of_code code.BadLength) { part = part_number part.Batch; expected = e; actual = a }
-batch_refusal (batch_error.TooManyIds ids) = record (of_code code.TooManyIds) { actual = ids }
+batch_refusal (batch_error.LengthMismatch e a) = bad_length part.Batch e a
+batch_refusal (batch_error.TooManyIds ids) = unexpected code.TooManyIds 0 ids
 batch_refusal batch_error.UnlawfulIds = of_code code.Unmet
-batch_refusal (batch_error.TraceMismatch air) = record (of_code code.TraceMismatch) { air = air }
+batch_refusal (batch_error.TraceMismatch air) = of_air code.TraceMismatch air
 batch_refusal batch_error.RepeatedChallenge = of_code code.RepeatedChallenge
 batch_refusal (batch_error.Air air error) = lookup_refusal air error
 batch_refusal batch_error.CountOverflow = of_code code.CountOverflow
@@ -127,15 +157,15 @@ abbrev pub refusal_of : Fault → CodedRefusal
 refusal_of Memory = of_code code.OutOfMemory
 refusal_of (Table air l fault) = table_refusal air l fault
 refusal_of (Traces air fault) = trace_refusal air fault
-refusal_of (Large p air i) = record (of_code code.BadNumber) { part = part_number p; air = air; row = i }
-refusal_of (Id i) = record (of_code code.BadNumber) { part = part_number part.Ids; row = i }
-refusal_of Width = record (of_code code.BadNumber) { part = part_number part.Sizes }
-refusal_of Rows = record (of_code code.BadNumber) { part = part_number part.Rows }
+refusal_of (Large p air i) = bad_number p air i
+refusal_of (Id i) = bad_number part.Ids 0 i
+refusal_of Width = bad_number part.Sizes 0 0
+refusal_of Rows = bad_number part.Rows 0 0
 refusal_of (Text e) = of_code code.BadText
-refusal_of (Length p e a) = record (of_code code.BadLength) { part = part_number p; expected = e; actual = a }
-refusal_of (Ragged air) = record (of_code code.NoWholeRows) { part = part_number part.Auxiliary; air = air }
-refusal_of (Misfit air) = record (of_code code.DoesNotFit) { air = air }
-refusal_of (Heights air) = record (of_code code.OtherHeight) { part = part_number part.Preprocessed; air = air }
+refusal_of (Length p e a) = bad_length p e a
+refusal_of (Ragged air) = bad_rows code.NoWholeRows part.Auxiliary air
+refusal_of (Misfit air) = of_air code.DoesNotFit air
+refusal_of (Heights air) = bad_rows code.OtherHeight part.Preprocessed air
 refusal_of (Lookup air error) = lookup_refusal air error
 refusal_of (Mismatch line) = of_code code.Mismatch
 refusal_of (Batch error) = batch_refusal error

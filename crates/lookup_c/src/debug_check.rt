@@ -107,8 +107,8 @@ fn check_instances<const P: u32, K: QuarticParameters<P>>(
     }
 }
 
-/// Checks what tables encode.
-fn check_tables<const P: u32, K: QuarticParameters<P>>(
+/// Does what `volgwain_debug_check` does, over any prime field below 2^31.
+pub(crate) fn answer_debug_check<const P: u32, K: QuarticParameters<P>>(
     alloc: Global,
     airs: &[Tables<'_>],
     traces: &[Traces<'_>],
@@ -130,24 +130,6 @@ fn check_tables<const P: u32, K: QuarticParameters<P>>(
     check_instances(alloc, &instances)
 }
 
-/// The answer of `volgwain_debug_check`, over any prime field below 2^31.
-pub(crate) fn answer_debug_check<const P: u32, K: QuarticParameters<P>>(
-    alloc: Global,
-    airs: &[Tables<'_>],
-    traces: &[Traces<'_>],
-    refusal: &mut Refusal,
-    text: &mut [u8],
-) -> u32
-    ensures answers { let E = ⟦<MontyQuartic<P, K> as Over<MontyField31<P, K>>>⟧.fields in
-        CallAnswers result refusal.new (DebugChecksTables K.positive E airs.now traces.now)
-        (IsDebugCheckRefusal K.positive E airs.now traces.now) }
-{
-    match check_tables::<P, K>(alloc, airs, traces) {
-        Ok(()) => accept(refusal),
-        Err(fault) => refuse(&fault, refusal, text),
-    }
-}
-
 /// Checks that all tuples balance: those of each local lookup by itself, and then those of each bus.
 ///
 /// Answers 0 if they do, or the code of a refusal; the text of a mismatch names the tuple, by how much it
@@ -164,5 +146,8 @@ pub extern "C" fn volgwain_debug_check(
         CallAnswers result refusal.new (DebugChecksTables baby_bear_positive E airs.now traces.now)
         (IsDebugCheckRefusal baby_bear_positive E airs.now traces.now) }
 {
-    answer_debug_check::<2_013_265_921, BabyBearParameters>(alloc, airs, traces, refusal, text)
+    match answer_debug_check::<2_013_265_921, BabyBearParameters>(alloc, airs, traces) {
+        Ok(()) => accept(refusal),
+        Err(fault) => refuse(&fault, refusal, text),
+    }
 }

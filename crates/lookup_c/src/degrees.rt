@@ -1,5 +1,6 @@
 //! The call that gives the degrees of lookups.
 ghost use Rattle.std.specs.Prelude.{◌≡◌, ◌≢◌, MatchResult, length, map};
+ghost use Rattle.std.specs.Result.{OnErr};
 ghost use Rattle.lookup.specs.Lookups.{lookups_of};
 ghost use Rattle.lookup_model.specs.LookupDegree.{lookup_degree};
 ghost use Rattle.lookup_c.specs.Degrees.{CallGivesDegrees, IsLargeDegreesRefusal, IsDegreesRefusal};
@@ -58,25 +59,19 @@ fn degrees_into_room<const P: u32, K: QuarticParameters<P>>(
     Ok(degrees)
 }
 
-/// The answer of `volgwain_degrees`, over any prime field below 2^31.
+/// Does what `volgwain_degrees` does, over any prime field below 2^31.
 pub(crate) fn answer_degrees<const P: u32, K: QuarticParameters<P>>(
     alloc: Global,
     tables: &Tables<'_>,
     degrees: &mut [usize],
-    refusal: &mut Refusal,
-    text: &mut [u8],
-) -> u32
-    ensures answers { CallAnswers result refusal.new (CallGivesDegrees P tables.now degrees.new)
+) -> Result<(), Fault>
+    ensures answers { MatchResult result (λ _. CallGivesDegrees P tables.now degrees.new)
         (IsDegreesRefusal P tables.now (length degrees.old)) }
-    ensures kept { result ≢ 0 → degrees.new ≡ degrees.old }
+    ensures kept { OnErr result (degrees.new ≡ degrees.old) }
 {
-    match degrees_into_room::<P, K>(alloc, tables, degrees.len()) {
-        Ok(made) => {
-            degrees.copy_from_slice(&made);
-            accept(refusal)
-        }
-        Err(fault) => refuse(&fault, refusal, text),
-    }
+    let made = degrees_into_room::<P, K>(alloc, tables, degrees.len())?;
+    degrees.copy_from_slice(&made);
+    Ok(())
 }
 
 /// Gives the degree of the constraint of each lookup of an AIR.
@@ -95,5 +90,8 @@ pub extern "C" fn volgwain_degrees(
         (IsDegreesRefusal 2013265921 tables.now (length degrees.old)) }
     ensures kept { result ≢ 0 → degrees.new ≡ degrees.old }
 {
-    answer_degrees::<2_013_265_921, BabyBearParameters>(alloc, tables, degrees, refusal, text)
+    match answer_degrees::<2_013_265_921, BabyBearParameters>(alloc, tables, degrees) {
+        Ok(()) => accept(refusal),
+        Err(fault) => refuse(&fault, refusal, text),
+    }
 }

@@ -1,16 +1,17 @@
 //! The call that generates the auxiliary trace of one AIR.
 ghost use Rattle.std.specs.Prelude.{◌≡◌, ◌≢◌, ◌≤◌, ◌*◌, MatchResult, length};
+ghost use Rattle.std.specs.Result.{OnErr};
 ghost use Rattle.field.specs.laws.BabyBear.{baby_bear_positive};
 ghost use Rattle.air.specs.Traces.{HaveOneHeight, traces_of};
 ghost use Rattle.lookup_c.specs.CallAnswers.{CallAnswers};
-ghost use Rattle.lookup_c.specs.Generate.{GenerateFits, CallGeneratesLookups, CallGeneratesNumbers, CallGeneratesTables, IsGenerateCallRefusal, IsFirstGenerateFault, IsGenerateLookupsRefusal, IsGenerateRefusal, IsGenerateUnfit};
+ghost use Rattle.lookup_c.specs.Generate.{GenerateFits, HasOtherGenerateRoom, CallGeneratesLookups, CallGeneratesNumbers, CallGeneratesTables, IsGenerateCallRefusal, IsFirstGenerateFault, IsGenerateLookupsRefusal, IsGenerateRefusal, IsGenerateUnfit};
 ghost use Rattle.lookup_c.specs.Inputs.{view_of_read};
-ghost use Rattle.lookup_c.specs.internal.Generate.{AreNumbersOfGenerated, IsNotWritten};
+ghost use Rattle.lookup_c.specs.internal.Generate.{AreNumbersOfGenerated};
 
 use crate::codes::Part;
 use crate::fault::{Fault, lookup_fault};
 use crate::inputs::{list_of, lookups_of, traces_of};
-use crate::outputs::{Terminal, terminal_numbers, write_elements};
+use crate::outputs::{Terminal, terminal_numbers, write_cells};
 use crate::refusal::{Refusal, accept, refuse};
 use expressions::AirLayout;
 use field::{
@@ -133,42 +134,26 @@ fn generate_tables<const P: u32, K: QuarticParameters<P>>(
     generate_lookups(alloc, &traces, &lookups, &challenges)
 }
 
-/// Writes what was generated for one AIR, or why it was not, and returns the code.
+/// Writes what was generated for one AIR.
 ///
-/// Refuses a caller that does not have room for exactly the cells.
+/// Refuses a caller that does not have room for exactly the cells, and then writes nothing.
 pub(crate) fn write_generated<const P: u32, K: QuarticParameters<P>>(
-    generated: Result<Generated<MontyQuartic<P, K>>, Fault>,
+    made: Generated<MontyQuartic<P, K>>,
     auxiliary: &mut [[u32; 4]],
     terminal: &mut Terminal,
-    refusal: &mut Refusal,
-    text: &mut [u8],
-) -> u32
-    ensures answers { CallAnswers result refusal.new
-        (AreNumbersOfGenerated generated auxiliary.new terminal.new)
-        (IsNotWritten generated (length auxiliary.old)) }
-    ensures kept { result ≢ 0
-        → (auxiliary.new ≡ auxiliary.old) × (terminal.new ≡ terminal.old) }
+) -> Result<(), Fault>
+    ensures answers { MatchResult result
+        (λ _. AreNumbersOfGenerated made auxiliary.new terminal.new)
+        (HasOtherGenerateRoom made.auxiliary (length auxiliary.old)) }
+    ensures kept { OnErr result
+        ((auxiliary.new ≡ auxiliary.old) × (terminal.new ≡ terminal.old)) }
 {
-    match generated {
-        Ok(made) => {
-            let values = made.auxiliary.values();
-            if values.len() != auxiliary.len() {
-                let fault = Fault::Length {
-                    part: Part::Auxiliary,
-                    expected: values.len(),
-                    actual: auxiliary.len(),
-                };
-                return refuse(&fault, refusal, text);
-            }
-            write_elements(auxiliary, 0, values);
-            *terminal = terminal_numbers(made.terminal);
-            accept(refusal)
-        }
-        Err(fault) => refuse(&fault, refusal, text),
-    }
+    write_cells(&made.auxiliary, auxiliary)?;
+    *terminal = terminal_numbers(made.terminal);
+    Ok(())
 }
 
-/// The answer of `volgwain_generate`, over any prime field below 2^31.
+/// Does what `volgwain_generate` does, over any prime field below 2^31.
 pub(crate) fn answer_generate<const P: u32, K: QuarticParameters<P>>(
     alloc: Global,
     tables: &Tables<'_>,
@@ -176,20 +161,17 @@ pub(crate) fn answer_generate<const P: u32, K: QuarticParameters<P>>(
     challenges: &[[u32; 4]],
     auxiliary: &mut [[u32; 4]],
     terminal: &mut Terminal,
-    refusal: &mut Refusal,
-    text: &mut [u8],
-) -> u32
+) -> Result<(), Fault>
     ensures answers { let E = ⟦<MontyQuartic<P, K> as Over<MontyField31<P, K>>>⟧.fields in
-        CallAnswers result refusal.new
-        (CallGeneratesNumbers K.positive E tables.now traces.now challenges.now auxiliary.new
-        terminal.new)
+        MatchResult result (λ _. CallGeneratesNumbers K.positive E tables.now traces.now
+        challenges.now auxiliary.new terminal.new)
         (IsGenerateCallRefusal K.positive E tables.now traces.now challenges.now
         (length auxiliary.old)) }
-    ensures kept { result ≢ 0
-        → (auxiliary.new ≡ auxiliary.old) × (terminal.new ≡ terminal.old) }
+    ensures kept { OnErr result
+        ((auxiliary.new ≡ auxiliary.old) × (terminal.new ≡ terminal.old)) }
 {
-    let generated = generate_tables::<P, K>(alloc, tables, traces, challenges);
-    write_generated(generated, auxiliary, terminal, refusal, text)
+    let made = generate_tables::<P, K>(alloc, tables, traces, challenges)?;
+    write_generated(made, auxiliary, terminal)
 }
 
 /// Generates the auxiliary trace of one AIR, and its terminal.
@@ -220,7 +202,10 @@ pub extern "C" fn volgwain_generate(
     ensures kept { result ≢ 0
         → (auxiliary.new ≡ auxiliary.old) × (terminal.new ≡ terminal.old) }
 {
-    answer_generate::<2_013_265_921, BabyBearParameters>(
-        alloc, tables, traces, challenges, auxiliary, terminal, refusal, text,
-    )
+    match answer_generate::<2_013_265_921, BabyBearParameters>(
+        alloc, tables, traces, challenges, auxiliary, terminal,
+    ) {
+        Ok(()) => accept(refusal),
+        Err(fault) => refuse(&fault, refusal, text),
+    }
 }

@@ -1,15 +1,16 @@
 //! The call that generates the auxiliary trace of one AIR of a planned batch.
 ghost use Rattle.std.specs.Prelude.{◌≡◌, ◌≢◌, MatchResult, length};
+ghost use Rattle.std.specs.Result.{OnErr};
 ghost use Rattle.field.specs.laws.BabyBear.{baby_bear_positive};
 ghost use Rattle.lookup_c.specs.GenerateByIds.{AnswersGenerateByIds};
-ghost use Rattle.lookup_c.specs.internal.PlannedAirs.{GeneratesByIdsInPlan, IsByIdsRefusal};
+ghost use Rattle.lookup_c.specs.internal.PlannedAirs.{GeneratesByIdsInPlan, GeneratesNumbersInPlan, IsByIdsCallRefusal, IsByIdsRefusal};
 
 use crate::fault::Fault;
 use crate::generate::{Generated, generate_fitting, write_generated};
 use crate::outputs::Terminal;
 use crate::plan::PlanSizes;
 use crate::planned_air::{InPlan, read_air};
-use crate::refusal::Refusal;
+use crate::refusal::{Refusal, accept, refuse};
 use field::{
     BabyBear, BabyBear4, BabyBearParameters, MontyField31, MontyQuartic, Over, QuarticParameters,
 };
@@ -35,35 +36,24 @@ fn generate_tables<const P: u32, K: QuarticParameters<P>>(
     generate_fitting(alloc, &air.traces, &air.lookups, &challenges)
 }
 
-/// The answer of `volgwain_generate_by_ids`, over any prime field below 2^31.
+/// Does what `volgwain_generate_by_ids` does, over any prime field below 2^31.
 pub(crate) fn answer_generate_by_ids<const P: u32, K: QuarticParameters<P>>(
     alloc: Global,
     tables: &Tables<'_>,
     traces: &Traces<'_>,
-    ids: &[usize],
-    sizes: &PlanSizes,
-    alpha: &[u32; 4],
-    beta: &[u32; 4],
+    plan: &InPlan<'_>,
     auxiliary: &mut [[u32; 4]],
     terminal: &mut Terminal,
-    refusal: &mut Refusal,
-    text: &mut [u8],
-) -> u32
-    ensures answers { AnswersGenerateByIds K.positive
-        ⟦<MontyQuartic<P, K> as Over<MontyField31<P, K>>>⟧.fields tables.now traces.now ids.now
-        sizes.now alpha.now beta.now (length auxiliary.old) auxiliary.new
-        terminal.new result refusal.new }
-    ensures kept { result ≢ 0
-        → (auxiliary.new ≡ auxiliary.old) × (terminal.new ≡ terminal.old) }
+) -> Result<(), Fault>
+    ensures answers { let E = ⟦<MontyQuartic<P, K> as Over<MontyField31<P, K>>>⟧.fields in
+        MatchResult result (λ _. GeneratesNumbersInPlan K.positive E tables.now traces.now plan.now
+        auxiliary.new terminal.new)
+        (IsByIdsCallRefusal K.positive E tables.now traces.now plan.now (length auxiliary.old)) }
+    ensures kept { OnErr result
+        ((auxiliary.new ≡ auxiliary.old) × (terminal.new ≡ terminal.old)) }
 {
-    let plan = InPlan {
-        ids,
-        sizes,
-        alpha,
-        beta,
-    };
-    let generated = generate_tables::<P, K>(alloc, tables, traces, &plan);
-    write_generated(generated, auxiliary, terminal, refusal, text)
+    let made = generate_tables::<P, K>(alloc, tables, traces, plan)?;
+    write_generated(made, auxiliary, terminal)
 }
 
 /// Generates the auxiliary trace of one AIR of a planned batch, and its terminal.
@@ -93,7 +83,16 @@ pub extern "C" fn volgwain_generate_by_ids(
     ensures kept { result ≢ 0
         → (auxiliary.new ≡ auxiliary.old) × (terminal.new ≡ terminal.old) }
 {
-    answer_generate_by_ids::<2_013_265_921, BabyBearParameters>(
-        alloc, tables, traces, ids, sizes, alpha, beta, auxiliary, terminal, refusal, text,
-    )
+    let plan = InPlan {
+        ids,
+        sizes,
+        alpha,
+        beta,
+    };
+    match answer_generate_by_ids::<2_013_265_921, BabyBearParameters>(
+        alloc, tables, traces, &plan, auxiliary, terminal,
+    ) {
+        Ok(()) => accept(refusal),
+        Err(fault) => refuse(&fault, refusal, text),
+    }
 }

@@ -1,13 +1,13 @@
 //! The call that generates a range of rows of the auxiliary trace of one AIR of a planned batch.
 ghost use Rattle.std.specs.Prelude.{◌≡◌, ◌≢◌, MatchResult, length};
+ghost use Rattle.std.specs.Result.{OnErr};
 ghost use Rattle.field.specs.laws.BabyBear.{baby_bear_positive};
 ghost use Rattle.lookup_c.specs.GenerateRows.{AnswersGenerateRows};
-ghost use Rattle.lookup_c.specs.internal.PlannedAirs.{GeneratesInPlan, IsGenerationRefusal};
+ghost use Rattle.lookup_c.specs.internal.PlannedAirs.{GeneratesInPlan, GeneratesRowNumbersInPlan, IsGenerationCallRefusal, IsGenerationRefusal};
 
-use crate::codes::Part;
 use crate::fault::{Fault, lookup_fault};
 use crate::generate::traces_as_one;
-use crate::outputs::write_elements;
+use crate::outputs::write_cells;
 use crate::plan::PlanSizes;
 use crate::planned_air::{InPlan, read_air};
 use crate::refusal::{Refusal, accept, refuse};
@@ -46,50 +46,27 @@ fn generate_tables<const P: u32, K: QuarticParameters<P>>(
     }
 }
 
-/// The answer of `volgwain_generate_rows`, over any prime field below 2^31.
+/// Does what `volgwain_generate_rows` does, over any prime field below 2^31.
 pub(crate) fn answer_generate_rows<const P: u32, K: QuarticParameters<P>>(
     alloc: Global,
     tables: &Tables<'_>,
     around: &Traces<'_>,
     rows: &Rows,
-    ids: &[usize],
-    sizes: &PlanSizes,
-    alpha: &[u32; 4],
-    beta: &[u32; 4],
+    plan: &InPlan<'_>,
     auxiliary: &mut [[u32; 4]],
     sum: &mut [u32; 4],
-    refusal: &mut Refusal,
-    text: &mut [u8],
-) -> u32
-    ensures answers { AnswersGenerateRows K.positive
-        ⟦<MontyQuartic<P, K> as Over<MontyField31<P, K>>>⟧.fields tables.now around.now rows.now
-        ids.now sizes.now alpha.now beta.now (length auxiliary.old)
-        auxiliary.new sum.new result refusal.new }
-    ensures kept { result ≢ 0 → (auxiliary.new ≡ auxiliary.old) × (sum.new ≡ sum.old) }
+) -> Result<(), Fault>
+    ensures answers { let E = ⟦<MontyQuartic<P, K> as Over<MontyField31<P, K>>>⟧.fields in
+        MatchResult result (λ _. GeneratesRowNumbersInPlan K.positive E tables.now around.now
+        rows.now plan.now auxiliary.new sum.new)
+        (IsGenerationCallRefusal K.positive E tables.now around.now rows.now plan.now
+        (length auxiliary.old)) }
+    ensures kept { OnErr result ((auxiliary.new ≡ auxiliary.old) × (sum.new ≡ sum.old)) }
 {
-    let plan = InPlan {
-        ids,
-        sizes,
-        alpha,
-        beta,
-    };
-    match generate_tables::<P, K>(alloc, tables, around, rows, &plan) {
-        Ok((made, total)) => {
-            let values = made.values();
-            if values.len() != auxiliary.len() {
-                let fault = Fault::Length {
-                    part: Part::Auxiliary,
-                    expected: values.len(),
-                    actual: auxiliary.len(),
-                };
-                return refuse(&fault, refusal, text);
-            }
-            write_elements(auxiliary, 0, values);
-            *sum = element_numbers(total);
-            accept(refusal)
-        }
-        Err(fault) => refuse(&fault, refusal, text),
-    }
+    let (made, total) = generate_tables::<P, K>(alloc, tables, around, rows, plan)?;
+    write_cells(&made, auxiliary)?;
+    *sum = element_numbers(total);
+    Ok(())
 }
 
 /// Generates the rows of a range of the auxiliary trace of one AIR of a planned batch, and the sum of their
@@ -122,7 +99,16 @@ pub extern "C" fn volgwain_generate_rows(
         auxiliary.new sum.new result refusal.new }
     ensures kept { result ≢ 0 → (auxiliary.new ≡ auxiliary.old) × (sum.new ≡ sum.old) }
 {
-    answer_generate_rows::<2_013_265_921, BabyBearParameters>(
-        alloc, tables, around, rows, ids, sizes, alpha, beta, auxiliary, sum, refusal, text,
-    )
+    let plan = InPlan {
+        ids,
+        sizes,
+        alpha,
+        beta,
+    };
+    match answer_generate_rows::<2_013_265_921, BabyBearParameters>(
+        alloc, tables, around, rows, &plan, auxiliary, sum,
+    ) {
+        Ok(()) => accept(refusal),
+        Err(fault) => refuse(&fault, refusal, text),
+    }
 }

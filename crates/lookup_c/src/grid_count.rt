@@ -1,5 +1,6 @@
 //! The call that counts at how many pairs of challenges a batch is accepted.
 ghost use Rattle.std.specs.Prelude.{◌≡◌, ◌≢◌, MatchResult};
+ghost use Rattle.std.specs.Result.{OnErr};
 ghost use Rattle.field.specs.laws.BabyBear.{baby_bear_positive};
 ghost use Rattle.lookup_c.specs.GridCount.{GridCountIsNumbers, GridCountOfTables, AreGridCountNumbers, IsGridCountRefusal};
 ghost use Rattle.lookup_c.specs.CallAnswers.{CallAnswers};
@@ -64,7 +65,7 @@ fn count_grid<const P: u32, K: QuarticParameters<P>>(
     Ok(plan.grid_count(alloc, &given, &alphas, &betas)?)
 }
 
-/// The answer of `volgwain_grid_count`, over any prime field below 2^31.
+/// Does what `volgwain_grid_count` does, over any prime field below 2^31.
 pub(crate) fn answer_grid_count<const P: u32, K: QuarticParameters<P>>(
     alloc: Global,
     airs: &[Air<'_>],
@@ -72,22 +73,16 @@ pub(crate) fn answer_grid_count<const P: u32, K: QuarticParameters<P>>(
     alphas: &[[u32; 4]],
     betas: &[[u32; 4]],
     grid: &mut Grid,
-    refusal: &mut Refusal,
-    text: &mut [u8],
-) -> u32
+) -> Result<(), Fault>
     ensures answers { let E = ⟦<MontyQuartic<P, K> as Over<MontyField31<P, K>>>⟧.fields in
-        CallAnswers result refusal.new
-        (GridCountIsNumbers K.positive E airs.now traces.now alphas.now betas.now grid.new)
+        MatchResult result
+        (λ _. GridCountIsNumbers K.positive E airs.now traces.now alphas.now betas.now grid.new)
         (IsGridCountRefusal K.positive E airs.now traces.now alphas.now betas.now) }
-    ensures kept { result ≢ 0 → grid.new ≡ grid.old }
+    ensures kept { OnErr result (grid.new ≡ grid.old) }
 {
-    match count_grid::<P, K>(alloc, airs, traces, alphas, betas) {
-        Ok(count) => {
-            *grid = grid_of(&count);
-            accept(refusal)
-        }
-        Err(fault) => refuse(&fault, refusal, text),
-    }
+    let count = count_grid::<P, K>(alloc, airs, traces, alphas, betas)?;
+    *grid = grid_of(&count);
+    Ok(())
 }
 
 /// Counts at how many pairs of some alphas and betas a batch is accepted, whoever makes the witness, with
@@ -111,7 +106,10 @@ pub extern "C" fn volgwain_grid_count(
         (IsGridCountRefusal baby_bear_positive E airs.now traces.now alphas.now betas.now) }
     ensures kept { result ≢ 0 → grid.new ≡ grid.old }
 {
-    answer_grid_count::<2_013_265_921, BabyBearParameters>(
-        alloc, airs, traces, alphas, betas, grid, refusal, text,
-    )
+    match answer_grid_count::<2_013_265_921, BabyBearParameters>(
+        alloc, airs, traces, alphas, betas, grid,
+    ) {
+        Ok(()) => accept(refusal),
+        Err(fault) => refuse(&fault, refusal, text),
+    }
 }

@@ -32,9 +32,10 @@ use crate::grid_count::{Grid, answer_grid_count};
 use crate::outputs::Terminal;
 use crate::pack::answer_pack;
 use crate::plan::{PlanSizes, answer_plan};
+use crate::planned_air::InPlan;
 use crate::prove::answer_prove;
 use crate::read_json::answer_read_json;
-use crate::refusal::Refusal;
+use crate::refusal::{Refusal, accept, refuse};
 use crate::rows::Rows;
 use crate::shift::answer_shift;
 use crate::soundness_count::{Counts, answer_soundness_count};
@@ -62,7 +63,10 @@ pub extern "C" fn volgwain_koala_bear_plan(
         (IsPlanCallRefusal 2130706433 airs.now (length ids.old)) }
     ensures kept { result ≢ 0 → (ids.new ≡ ids.old) × (plan.new ≡ plan.old) }
 {
-    answer_plan::<2_130_706_433, KoalaBearParameters>(alloc, airs, ids, plan, refusal, text)
+    match answer_plan::<2_130_706_433, KoalaBearParameters>(alloc, airs, ids, plan) {
+        Ok(()) => accept(refusal),
+        Err(fault) => refuse(&fault, refusal, text),
+    }
 }
 
 /// As [`volgwain_prove`](crate::volgwain_prove), over `KoalaBear`.
@@ -84,9 +88,12 @@ pub extern "C" fn volgwain_koala_bear_prove(
     ensures kept { result ≢ 0
         → (auxiliary.new ≡ auxiliary.old) × (terminals.new ≡ terminals.old) }
 {
-    answer_prove::<2_130_706_433, KoalaBearParameters>(
-        alloc, airs, traces, alpha, beta, auxiliary, terminals, refusal, text,
-    )
+    match answer_prove::<2_130_706_433, KoalaBearParameters>(
+        alloc, airs, traces, alpha, beta, auxiliary, terminals,
+    ) {
+        Ok(()) => accept(refusal),
+        Err(fault) => refuse(&fault, refusal, text),
+    }
 }
 
 /// As [`volgwain_verify`](crate::volgwain_verify), over `KoalaBear`.
@@ -106,9 +113,12 @@ pub extern "C" fn volgwain_koala_bear_verify(
         (VerifiesTables koala_bear_positive E airs.now traces.now alpha.now beta.now witness.now)
         (IsVerifyRefusal koala_bear_positive E airs.now traces.now alpha.now beta.now witness.now) }
 {
-    answer_verify::<2_130_706_433, KoalaBearParameters>(
-        alloc, airs, traces, alpha, beta, witness, refusal, text,
-    )
+    match answer_verify::<2_130_706_433, KoalaBearParameters>(
+        alloc, airs, traces, alpha, beta, witness,
+    ) {
+        Ok(()) => accept(refusal),
+        Err(fault) => refuse(&fault, refusal, text),
+    }
 }
 
 /// As [`volgwain_debug_check`](crate::volgwain_debug_check), over `KoalaBear`.
@@ -124,7 +134,10 @@ pub extern "C" fn volgwain_koala_bear_debug_check(
         CallAnswers result refusal.new (DebugChecksTables koala_bear_positive E airs.now traces.now)
         (IsDebugCheckRefusal koala_bear_positive E airs.now traces.now) }
 {
-    answer_debug_check::<2_130_706_433, KoalaBearParameters>(alloc, airs, traces, refusal, text)
+    match answer_debug_check::<2_130_706_433, KoalaBearParameters>(alloc, airs, traces) {
+        Ok(()) => accept(refusal),
+        Err(fault) => refuse(&fault, refusal, text),
+    }
 }
 
 /// As [`volgwain_soundness_count`](crate::volgwain_soundness_count), over `KoalaBear`.
@@ -143,9 +156,12 @@ pub extern "C" fn volgwain_koala_bear_soundness_count(
         (IsSoundnessCountRefusal koala_bear_positive E airs.now traces.now) }
     ensures kept { result ≢ 0 → counts.new ≡ counts.old }
 {
-    answer_soundness_count::<2_130_706_433, KoalaBearParameters>(
-        alloc, airs, traces, counts, refusal, text,
-    )
+    match answer_soundness_count::<2_130_706_433, KoalaBearParameters>(
+        alloc, airs, traces, counts,
+    ) {
+        Ok(()) => accept(refusal),
+        Err(fault) => refuse(&fault, refusal, text),
+    }
 }
 
 /// As [`volgwain_soundness_of_heights`](crate::volgwain_soundness_of_heights), over `KoalaBear`.
@@ -162,9 +178,10 @@ pub extern "C" fn volgwain_koala_bear_soundness_of_heights(
         (IsSoundnessOfHeightsRefusal E airs.now) }
     ensures kept { result ≢ 0 → counts.new ≡ counts.old }
 {
-    answer_soundness_of_heights::<2_130_706_433, KoalaBearParameters>(
-        alloc, airs, counts, refusal, text,
-    )
+    match answer_soundness_of_heights::<2_130_706_433, KoalaBearParameters>(alloc, airs, counts) {
+        Ok(()) => accept(refusal),
+        Err(fault) => refuse(&fault, refusal, text),
+    }
 }
 
 /// As [`volgwain_grid_count`](crate::volgwain_grid_count), over `KoalaBear`.
@@ -185,9 +202,12 @@ pub extern "C" fn volgwain_koala_bear_grid_count(
         (IsGridCountRefusal koala_bear_positive E airs.now traces.now alphas.now betas.now) }
     ensures kept { result ≢ 0 → grid.new ≡ grid.old }
 {
-    answer_grid_count::<2_130_706_433, KoalaBearParameters>(
-        alloc, airs, traces, alphas, betas, grid, refusal, text,
-    )
+    match answer_grid_count::<2_130_706_433, KoalaBearParameters>(
+        alloc, airs, traces, alphas, betas, grid,
+    ) {
+        Ok(()) => accept(refusal),
+        Err(fault) => refuse(&fault, refusal, text),
+    }
 }
 
 /// As [`volgwain_generate`](crate::volgwain_generate), over `KoalaBear`.
@@ -211,9 +231,12 @@ pub extern "C" fn volgwain_koala_bear_generate(
     ensures kept { result ≢ 0
         → (auxiliary.new ≡ auxiliary.old) × (terminal.new ≡ terminal.old) }
 {
-    answer_generate::<2_130_706_433, KoalaBearParameters>(
-        alloc, tables, traces, challenges, auxiliary, terminal, refusal, text,
-    )
+    match answer_generate::<2_130_706_433, KoalaBearParameters>(
+        alloc, tables, traces, challenges, auxiliary, terminal,
+    ) {
+        Ok(()) => accept(refusal),
+        Err(fault) => refuse(&fault, refusal, text),
+    }
 }
 
 /// As [`volgwain_generate_by_ids`](crate::volgwain_generate_by_ids), over `KoalaBear`.
@@ -237,9 +260,18 @@ pub extern "C" fn volgwain_koala_bear_generate_by_ids(
     ensures kept { result ≢ 0
         → (auxiliary.new ≡ auxiliary.old) × (terminal.new ≡ terminal.old) }
 {
-    answer_generate_by_ids::<2_130_706_433, KoalaBearParameters>(
-        alloc, tables, traces, ids, sizes, alpha, beta, auxiliary, terminal, refusal, text,
-    )
+    let plan = InPlan {
+        ids,
+        sizes,
+        alpha,
+        beta,
+    };
+    match answer_generate_by_ids::<2_130_706_433, KoalaBearParameters>(
+        alloc, tables, traces, &plan, auxiliary, terminal,
+    ) {
+        Ok(()) => accept(refusal),
+        Err(fault) => refuse(&fault, refusal, text),
+    }
 }
 
 /// As [`volgwain_generate_rows`](crate::volgwain_generate_rows), over `KoalaBear`.
@@ -263,9 +295,18 @@ pub extern "C" fn volgwain_koala_bear_generate_rows(
         alpha.now beta.now (length auxiliary.old) auxiliary.new sum.new result refusal.new }
     ensures kept { result ≢ 0 → (auxiliary.new ≡ auxiliary.old) × (sum.new ≡ sum.old) }
 {
-    answer_generate_rows::<2_130_706_433, KoalaBearParameters>(
-        alloc, tables, around, rows, ids, sizes, alpha, beta, auxiliary, sum, refusal, text,
-    )
+    let plan = InPlan {
+        ids,
+        sizes,
+        alpha,
+        beta,
+    };
+    match answer_generate_rows::<2_130_706_433, KoalaBearParameters>(
+        alloc, tables, around, rows, &plan, auxiliary, sum,
+    ) {
+        Ok(()) => accept(refusal),
+        Err(fault) => refuse(&fault, refusal, text),
+    }
 }
 
 /// As [`volgwain_shift`](crate::volgwain_shift), over `KoalaBear`.
@@ -283,7 +324,10 @@ pub extern "C" fn volgwain_koala_bear_shift(
         (IsShiftRefusal 2130706433 cells.old width offset.now) }
     ensures kept { result ≢ 0 → cells.new ≡ cells.old }
 {
-    answer_shift::<2_130_706_433, KoalaBearParameters>(cells, width, offset, refusal, text)
+    match answer_shift::<2_130_706_433, KoalaBearParameters>(cells, width, offset) {
+        Ok(()) => accept(refusal),
+        Err(fault) => refuse(&fault, refusal, text),
+    }
 }
 
 /// As [`volgwain_verify_rows`](crate::volgwain_verify_rows), over `KoalaBear`.
@@ -308,9 +352,18 @@ pub extern "C" fn volgwain_koala_bear_verify_rows(
         (IsVerifyRowsRefusal koala_bear_positive E tables.now around.now rows.now ids.now sizes.now
         alpha.now beta.now witness.now) }
 {
-    answer_verify_rows::<2_130_706_433, KoalaBearParameters>(
-        alloc, tables, around, rows, ids, sizes, alpha, beta, witness, refusal, text,
-    )
+    let plan = InPlan {
+        ids,
+        sizes,
+        alpha,
+        beta,
+    };
+    match answer_verify_rows::<2_130_706_433, KoalaBearParameters>(
+        alloc, tables, around, rows, &plan, witness,
+    ) {
+        Ok(()) => accept(refusal),
+        Err(fault) => refuse(&fault, refusal, text),
+    }
 }
 
 /// As [`volgwain_degrees`](crate::volgwain_degrees), over `KoalaBear`.
@@ -327,7 +380,10 @@ pub extern "C" fn volgwain_koala_bear_degrees(
         (IsDegreesRefusal 2130706433 tables.now (length degrees.old)) }
     ensures kept { result ≢ 0 → degrees.new ≡ degrees.old }
 {
-    answer_degrees::<2_130_706_433, KoalaBearParameters>(alloc, tables, degrees, refusal, text)
+    match answer_degrees::<2_130_706_433, KoalaBearParameters>(alloc, tables, degrees) {
+        Ok(()) => accept(refusal),
+        Err(fault) => refuse(&fault, refusal, text),
+    }
 }
 
 /// As [`volgwain_pack`](crate::volgwain_pack), over `KoalaBear`.
@@ -350,9 +406,15 @@ pub extern "C" fn volgwain_koala_bear_pack(
     ensures kept { result ≢ 0 → (nodes.new ≡ nodes.old) × (tuples.new ≡ tuples.old)
         × (names.new ≡ names.old) × (records.new ≡ records.old) × (sizes.new ≡ sizes.old) }
 {
-    answer_pack::<2_130_706_433, KoalaBearParameters>(
-        alloc, tables, max_degree, nodes, tuples, names, records, sizes, refusal, text,
-    )
+    match answer_pack::<2_130_706_433, KoalaBearParameters>(
+        alloc, tables, max_degree, nodes, tuples, names, records,
+    ) {
+        Ok(written) => {
+            *sizes = written;
+            accept(refusal)
+        }
+        Err(fault) => refuse(&fault, refusal, text),
+    }
 }
 
 /// As [`volgwain_read_json`](crate::volgwain_read_json), over `KoalaBear`.
@@ -374,7 +436,13 @@ pub extern "C" fn volgwain_koala_bear_read_json(
     ensures kept { result ≢ 0 → (nodes.new ≡ nodes.old) × (tuples.new ≡ tuples.old)
         × (names.new ≡ names.old) × (records.new ≡ records.old) × (sizes.new ≡ sizes.old) }
 {
-    answer_read_json::<2_130_706_433, KoalaBearParameters>(
-        alloc, json, nodes, tuples, names, records, sizes, refusal, text,
-    )
+    match answer_read_json::<2_130_706_433, KoalaBearParameters>(
+        alloc, json, nodes, tuples, names, records,
+    ) {
+        Ok(written) => {
+            *sizes = written;
+            accept(refusal)
+        }
+        Err(fault) => refuse(&fault, refusal, text),
+    }
 }

@@ -3,10 +3,10 @@
 //!
 //! Each call gets all that it reads as tables of numbers, the lookups and traces of `lookup_tables`, and
 //! writes into arrays of its caller. It answers a code: 0, or that of a refusal, with its fields and its
-//! text. Each call is in the file of its name, over any such field and as the C function over `BabyBear`; those
-//! over `KoalaBear` are in `koala_bear`. A refused call leaves the other arrays as they were. No memory and no
-//! handle crosses the boundary. `bindings/c/volgwain.h` declares the calls for C, and docs/C.md says how they
-//! are used.
+//! text. Each call is in the file of its name: what it does over any such field, which answers a `Result`, and the
+//! C function over `BabyBear`; those over `KoalaBear` are in `koala_bear`. A refused call leaves the other arrays
+//! as they were. No memory and no handle crosses the boundary. `bindings/c/volgwain.h` declares the calls for C,
+//! and docs/C.md says how they are used.
 #![tactic(auto)]
 
 mod abi;

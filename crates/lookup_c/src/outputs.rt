@@ -1,9 +1,13 @@
 //! What calls write, as numbers: cells, terminals and counts.
-ghost use Rattle.std.specs.Prelude.{◌≡◌, ◌+◌, ◌≤◌, ◌++◌, IfSome, length, map, take};
+ghost use Rattle.std.specs.Prelude.{◌≡◌, ◌+◌, ◌≤◌, ◌++◌, IfSome, MatchResult, length, map, take};
 ghost use Rattle.std.specs.List.{flat_map};
+ghost use Rattle.std.specs.Result.{OnErr};
 ghost use Rattle.lookup_tables.specs.Numbers.{numbers_of};
+ghost use Rattle.lookup_c.specs.Generate.{HasOtherGenerateRoom};
 ghost use Rattle.lookup_c.specs.Outputs.{IsOptionalWide, output_cells, wide_number, terminal_numbers};
 
+use crate::codes::Part;
+use crate::fault::Fault;
 use field::{MontyQuartic, QuarticParameters};
 use lookup::LookupTerminal;
 use lookup_tables::element_numbers;
@@ -78,6 +82,29 @@ pub(crate) fn write_elements<const P: u32, K: QuarticParameters<P>>(
     for index in 0..values.len() {
         cells[at + index] = element_numbers(values[index]);
     }
+}
+
+/// Writes the cells of an auxiliary trace.
+///
+/// Refuses a caller that does not have room for exactly these, and then leaves the cells as they were.
+pub(crate) fn write_cells<const P: u32, K: QuarticParameters<P>>(
+    trace: &RowMajorMatrix<MontyQuartic<P, K>>,
+    cells: &mut [[u32; 4]],
+) -> Result<(), Fault>
+    ensures answers { MatchResult result (λ _. cells.new ≡ output_cells trace.now)
+        (HasOtherGenerateRoom trace.now (length cells.old)) }
+    ensures kept { OnErr result (cells.new ≡ cells.old) }
+{
+    let values = trace.values();
+    if values.len() != cells.len() {
+        return Err(Fault::Length {
+            part: Part::Auxiliary,
+            expected: values.len(),
+            actual: cells.len(),
+        });
+    }
+    write_elements(cells, 0, values);
+    Ok(())
 }
 
 /// How many cells some auxiliary traces have, if so many can be counted.

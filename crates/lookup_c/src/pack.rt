@@ -1,13 +1,14 @@
 //! The call that packs the lookups of an AIR.
 ghost use Rattle.std.specs.Prelude.{◌≡◌, ◌≢◌, MatchResult};
+ghost use Rattle.std.specs.Result.{OnErr};
 ghost use Rattle.lookup.specs.Lookups.{lookups_of};
-ghost use Rattle.lookup_c.specs.Pack.{AnswersPack, IsPackRefusal, IsPackSetRefusal, CallPacksFrom, PacksTables};
-ghost use Rattle.lookup_c.specs.WrittenTables.{HasTableRoom, table_arrays, sizes_of_written};
+ghost use Rattle.lookup_c.specs.Pack.{AnswersPack, IsPackRefusal, IsPackSetRefusal, CallPacksFrom, PacksIntoArrays, PacksTables};
+ghost use Rattle.lookup_c.specs.WrittenTables.{HasTableRoom, room_of_arrays, table_arrays, sizes_of_written};
 
 use crate::batch_tables::set_of;
 use crate::fault::{Fault, lookup_fault};
 use crate::refusal::{Refusal, accept, refuse};
-use crate::written_tables::{TableSizes, tables_for, write_tables};
+use crate::written_tables::{TableSizes, room_of, tables_for, write_tables};
 use field::{
     BabyBear, BabyBear4, BabyBearParameters, MontyField31, MontyQuartic, Over, QuarticParameters,
 };
@@ -48,7 +49,7 @@ fn pack_tables<const P: u32, K: QuarticParameters<P>>(
     tables_for(alloc, &after, room)
 }
 
-/// The answer of `volgwain_pack`, over any prime field below 2^31.
+/// Does what `volgwain_pack` does, over any prime field below 2^31, and answers the sizes of what is written.
 pub(crate) fn answer_pack<const P: u32, K: QuarticParameters<P>>(
     alloc: Global,
     tables: &Tables<'_>,
@@ -57,30 +58,18 @@ pub(crate) fn answer_pack<const P: u32, K: QuarticParameters<P>>(
     tuples: &mut [Span],
     names: &mut [u8],
     records: &mut [Record],
-    sizes: &mut TableSizes,
-    refusal: &mut Refusal,
-    text: &mut [u8],
-) -> u32
-    ensures answers { AnswersPack ⟦<MontyQuartic<P, K> as Over<MontyField31<P, K>>>⟧.fields
-        tables.now max_degree
-        (table_arrays nodes.old tuples.old names.old records.old)
-        (table_arrays nodes.new tuples.new names.new records.new) sizes.new result refusal.new }
-    ensures kept { result ≢ 0 → (nodes.new ≡ nodes.old) × (tuples.new ≡ tuples.old)
-        × (names.new ≡ names.old) × (records.new ≡ records.old) × (sizes.new ≡ sizes.old) }
+) -> Result<TableSizes, Fault>
+    ensures answers { let E = ⟦<MontyQuartic<P, K> as Over<MontyField31<P, K>>>⟧.fields in
+        let before = table_arrays nodes.old tuples.old names.old records.old in
+        MatchResult result (PacksIntoArrays E tables.now max_degree before
+        (table_arrays nodes.new tuples.new names.new records.new))
+        (IsPackRefusal E tables.now max_degree (room_of_arrays before)) }
+    ensures kept { OnErr result ((nodes.new ≡ nodes.old) × (tuples.new ≡ tuples.old)
+        × (names.new ≡ names.old) × (records.new ≡ records.old)) }
 {
-    let room = TableSizes {
-        nodes: nodes.len(),
-        tuples: tuples.len(),
-        names: names.len(),
-        records: records.len(),
-    };
-    match pack_tables::<P, K>(alloc, tables, max_degree, room) {
-        Ok(made) => {
-            *sizes = write_tables(&made, nodes, tuples, names, records);
-            accept(refusal)
-        }
-        Err(fault) => refuse(&fault, refusal, text),
-    }
+    let room = room_of(nodes, tuples, names, records);
+    let made = pack_tables::<P, K>(alloc, tables, max_degree, room)?;
+    Ok(write_tables(&made, nodes, tuples, names, records))
 }
 
 /// Packs the lookups of an AIR: those on one bus share columns, as many as the degree allows.
@@ -107,7 +96,13 @@ pub extern "C" fn volgwain_pack(
     ensures kept { result ≢ 0 → (nodes.new ≡ nodes.old) × (tuples.new ≡ tuples.old)
         × (names.new ≡ names.old) × (records.new ≡ records.old) × (sizes.new ≡ sizes.old) }
 {
-    answer_pack::<2_013_265_921, BabyBearParameters>(
-        alloc, tables, max_degree, nodes, tuples, names, records, sizes, refusal, text,
-    )
+    match answer_pack::<2_013_265_921, BabyBearParameters>(
+        alloc, tables, max_degree, nodes, tuples, names, records,
+    ) {
+        Ok(written) => {
+            *sizes = written;
+            accept(refusal)
+        }
+        Err(fault) => refuse(&fault, refusal, text),
+    }
 }

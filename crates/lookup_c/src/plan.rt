@@ -1,6 +1,7 @@
 //! The call that gives the plan of a batch.
 ghost use Rattle.std.specs.Prelude.{◌≡◌, ◌≢◌, ◌+◌, ◌≤◌, ◌++◌, IfSome, MatchResult, length, take};
 ghost use Rattle.std.specs.List.{flat_map};
+ghost use Rattle.std.specs.Result.{OnErr};
 ghost use Rattle.batch.specs.Runs.{plan_of};
 ghost use Rattle.lookup_c.specs.BatchTables.{IsPlanOfTables};
 ghost use Rattle.lookup_c.specs.Plan.{IsPlanCallRefusal, PlansNumbers, id_items};
@@ -82,30 +83,24 @@ fn plan_into_room<const P: u32, K: QuarticParameters<P>>(
     Ok(plan)
 }
 
-/// The answer of `volgwain_plan`, over any prime field below 2^31.
+/// Does what `volgwain_plan` does, over any prime field below 2^31.
 pub(crate) fn answer_plan<const P: u32, K: QuarticParameters<P>>(
     alloc: Global,
     airs: &[Air<'_>],
     ids: &mut [usize],
     plan: &mut PlanSizes,
-    refusal: &mut Refusal,
-    text: &mut [u8],
-) -> u32
-    ensures answers { CallAnswers result refusal.new (PlansNumbers P airs.now ids.new plan.new)
+) -> Result<(), Fault>
+    ensures answers { MatchResult result (λ _. PlansNumbers P airs.now ids.new plan.new)
         (IsPlanCallRefusal P airs.now (length ids.old)) }
-    ensures kept { result ≢ 0 → (ids.new ≡ ids.old) × (plan.new ≡ plan.old) }
+    ensures kept { OnErr result ((ids.new ≡ ids.old) × (plan.new ≡ plan.old)) }
 {
-    match plan_into_room::<P, K>(alloc, airs, ids.len()) {
-        Ok(made) => {
-            write_ids(ids, made.ids());
-            *plan = PlanSizes {
-                max_message_width: made.max_message_width(),
-                num_ids: made.num_ids(),
-            };
-            accept(refusal)
-        }
-        Err(fault) => refuse(&fault, refusal, text),
-    }
+    let made = plan_into_room::<P, K>(alloc, airs, ids.len())?;
+    write_ids(ids, made.ids());
+    *plan = PlanSizes {
+        max_message_width: made.max_message_width(),
+        num_ids: made.num_ids(),
+    };
+    Ok(())
 }
 
 /// Gives the plan of a batch: an id for each lookup, AIR by AIR, and its sizes.
@@ -127,5 +122,8 @@ pub extern "C" fn volgwain_plan(
         (IsPlanCallRefusal 2013265921 airs.now (length ids.old)) }
     ensures kept { result ≢ 0 → (ids.new ≡ ids.old) × (plan.new ≡ plan.old) }
 {
-    answer_plan::<2_013_265_921, BabyBearParameters>(alloc, airs, ids, plan, refusal, text)
+    match answer_plan::<2_013_265_921, BabyBearParameters>(alloc, airs, ids, plan) {
+        Ok(()) => accept(refusal),
+        Err(fault) => refuse(&fault, refusal, text),
+    }
 }

@@ -1,7 +1,8 @@
 //! The call of a prover on the plan of a batch.
 ghost use Rattle.std.specs.Prelude.{◌≡◌, ◌≢◌, MatchResult, length};
+ghost use Rattle.std.specs.Result.{OnErr};
 ghost use Rattle.field.specs.laws.BabyBear.{baby_bear_positive};
-ghost use Rattle.lookup_c.specs.Prove.{AnswersProve, HasProveRoom, IsProveCallRefusal, IsProveRefusal, IsProveRoomRefusal, ProvesTables};
+ghost use Rattle.lookup_c.specs.Prove.{AnswersProve, HasProveRoom, IsProveCallRefusal, IsProveRefusal, IsProveRoomRefusal, ProvesNumbers, ProvesTables};
 
 use crate::batch_tables::{Air, all_traces, plan_of, plan_traces};
 use crate::codes::Part;
@@ -88,7 +89,7 @@ fn prove_into_room<const P: u32, K: QuarticParameters<P>>(
     Ok(witness)
 }
 
-/// The answer of `volgwain_prove`, over any prime field below 2^31.
+/// Does what `volgwain_prove` does, over any prime field below 2^31.
 pub(crate) fn answer_prove<const P: u32, K: QuarticParameters<P>>(
     alloc: Global,
     airs: &[Air<'_>],
@@ -97,25 +98,20 @@ pub(crate) fn answer_prove<const P: u32, K: QuarticParameters<P>>(
     beta: &[u32; 4],
     auxiliary: &mut [[u32; 4]],
     terminals: &mut [Terminal],
-    refusal: &mut Refusal,
-    text: &mut [u8],
-) -> u32
-    ensures answers { AnswersProve K.positive
-        ⟦<MontyQuartic<P, K> as Over<MontyField31<P, K>>>⟧.fields airs.now traces.now alpha.now
-        beta.now (length auxiliary.old) (length terminals.old) auxiliary.new terminals.new result
-        refusal.new }
-    ensures kept { result ≢ 0
-        → (auxiliary.new ≡ auxiliary.old) × (terminals.new ≡ terminals.old) }
+) -> Result<(), Fault>
+    ensures answers { let E = ⟦<MontyQuartic<P, K> as Over<MontyField31<P, K>>>⟧.fields in
+        MatchResult result (λ _. ProvesNumbers K.positive E airs.now traces.now alpha.now beta.now
+        auxiliary.new terminals.new)
+        (IsProveCallRefusal K.positive E airs.now traces.now alpha.now beta.now
+        (length auxiliary.old) (length terminals.old)) }
+    ensures kept { OnErr result
+        ((auxiliary.new ≡ auxiliary.old) × (terminals.new ≡ terminals.old)) }
 {
     let (cells, endings) = (auxiliary.len(), terminals.len());
-    match prove_into_room::<P, K>(alloc, airs, traces, alpha, beta, cells, endings) {
-        Ok(witness) => {
-            write_traces(auxiliary, &witness.aux);
-            write_terminals(terminals, &witness.terminals);
-            accept(refusal)
-        }
-        Err(fault) => refuse(&fault, refusal, text),
-    }
+    let witness = prove_into_room::<P, K>(alloc, airs, traces, alpha, beta, cells, endings)?;
+    write_traces(auxiliary, &witness.aux);
+    write_terminals(terminals, &witness.terminals);
+    Ok(())
 }
 
 /// Makes the witness of a batch: the auxiliary traces and the terminals of its AIRs.
@@ -144,7 +140,10 @@ pub extern "C" fn volgwain_prove(
     ensures kept { result ≢ 0
         → (auxiliary.new ≡ auxiliary.old) × (terminals.new ≡ terminals.old) }
 {
-    answer_prove::<2_013_265_921, BabyBearParameters>(
-        alloc, airs, traces, alpha, beta, auxiliary, terminals, refusal, text,
-    )
+    match answer_prove::<2_013_265_921, BabyBearParameters>(
+        alloc, airs, traces, alpha, beta, auxiliary, terminals,
+    ) {
+        Ok(()) => accept(refusal),
+        Err(fault) => refuse(&fault, refusal, text),
+    }
 }

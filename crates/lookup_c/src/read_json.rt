@@ -1,12 +1,13 @@
 //! The call that reads lookups from JSON.
 ghost use Rattle.std.specs.Prelude.{◌≡◌, ◌≢◌, MatchResult};
+ghost use Rattle.std.specs.Result.{OnErr};
 ghost use Rattle.std.specs.Str.{IsUtf8};
-ghost use Rattle.lookup_c.specs.ReadJson.{AnswersReadJson, IsReadJsonRefusal, IsJsonRefusal, IsJsonTextRefusal, ReadsJsonTables};
-ghost use Rattle.lookup_c.specs.WrittenTables.{HasTableRoom, table_arrays, sizes_of_written};
+ghost use Rattle.lookup_c.specs.ReadJson.{AnswersReadJson, IsReadJsonRefusal, IsJsonRefusal, IsJsonTextRefusal, ReadsJsonIntoArrays, ReadsJsonTables};
+ghost use Rattle.lookup_c.specs.WrittenTables.{HasTableRoom, room_of_arrays, table_arrays, sizes_of_written};
 
 use crate::fault::Fault;
 use crate::refusal::{Refusal, accept, refuse};
-use crate::written_tables::{TableSizes, tables_for, write_tables};
+use crate::written_tables::{TableSizes, room_of, tables_for, write_tables};
 use field::{BabyBearParameters, MontyField31, QuarticParameters};
 use lookup::{Lookup, Lookups};
 use lookup_tables::{Node, Record, Span, Written};
@@ -58,7 +59,8 @@ fn tables_from_json<const P: u32, K: QuarticParameters<P>>(
     tables_for(alloc, &set, room)
 }
 
-/// The answer of `volgwain_read_json`, over any prime field below 2^31.
+/// Does what `volgwain_read_json` does, over any prime field below 2^31, and answers the sizes of what is
+/// written.
 pub(crate) fn answer_read_json<const P: u32, K: QuarticParameters<P>>(
     alloc: Global,
     json: &[u8],
@@ -66,29 +68,17 @@ pub(crate) fn answer_read_json<const P: u32, K: QuarticParameters<P>>(
     tuples: &mut [Span],
     names: &mut [u8],
     records: &mut [Record],
-    sizes: &mut TableSizes,
-    refusal: &mut Refusal,
-    text: &mut [u8],
-) -> u32
-    ensures answers { AnswersReadJson P json.now
-        (table_arrays nodes.old tuples.old names.old records.old)
-        (table_arrays nodes.new tuples.new names.new records.new) sizes.new result refusal.new }
-    ensures kept { result ≢ 0 → (nodes.new ≡ nodes.old) × (tuples.new ≡ tuples.old)
-        × (names.new ≡ names.old) × (records.new ≡ records.old) × (sizes.new ≡ sizes.old) }
+) -> Result<TableSizes, Fault>
+    ensures answers { let before = table_arrays nodes.old tuples.old names.old records.old in
+        MatchResult result (ReadsJsonIntoArrays P json.now before
+        (table_arrays nodes.new tuples.new names.new records.new))
+        (IsReadJsonRefusal P json.now (room_of_arrays before)) }
+    ensures kept { OnErr result ((nodes.new ≡ nodes.old) × (tuples.new ≡ tuples.old)
+        × (names.new ≡ names.old) × (records.new ≡ records.old)) }
 {
-    let room = TableSizes {
-        nodes: nodes.len(),
-        tuples: tuples.len(),
-        names: names.len(),
-        records: records.len(),
-    };
-    match tables_from_json::<P, K>(alloc, json, room) {
-        Ok(made) => {
-            *sizes = write_tables(&made, nodes, tuples, names, records);
-            accept(refusal)
-        }
-        Err(fault) => refuse(&fault, refusal, text),
-    }
+    let room = room_of(nodes, tuples, names, records);
+    let made = tables_from_json::<P, K>(alloc, json, room)?;
+    Ok(write_tables(&made, nodes, tuples, names, records))
 }
 
 /// Reads the lookups of an AIR from JSON into tables.
@@ -114,7 +104,13 @@ pub extern "C" fn volgwain_read_json(
     ensures kept { result ≢ 0 → (nodes.new ≡ nodes.old) × (tuples.new ≡ tuples.old)
         × (names.new ≡ names.old) × (records.new ≡ records.old) × (sizes.new ≡ sizes.old) }
 {
-    answer_read_json::<2_013_265_921, BabyBearParameters>(
-        alloc, json, nodes, tuples, names, records, sizes, refusal, text,
-    )
+    match answer_read_json::<2_013_265_921, BabyBearParameters>(
+        alloc, json, nodes, tuples, names, records,
+    ) {
+        Ok(written) => {
+            *sizes = written;
+            accept(refusal)
+        }
+        Err(fault) => refuse(&fault, refusal, text),
+    }
 }

@@ -1,7 +1,7 @@
 //! Refusals as C sees them.
 ghost use Rattle.std.specs.Prelude.{◌≡◌, ◌≢◌};
 ghost use Rattle.lookup_c.specs.Codes.{part_of};
-ghost use Rattle.lookup_c.specs.Refusals.{IsRefusalOf, bad_table, batch_refusal, lookup_refusal, no_refusal, refusal_numbers, of_code, refusal_of, table_refusal, trace_refusal};
+ghost use Rattle.lookup_c.specs.Refusals.{IsRefusalOf, bad_length, bad_number, bad_rows, bad_table, batch_refusal, lookup_refusal, no_refusal, of_air, of_code, on_row, refusal_numbers, refusal_of, table_refusal, trace_refusal, unexpected, witness_refusal};
 
 use crate::codes::{Code, Part, RecordFault};
 use crate::fault::Fault;
@@ -47,6 +47,69 @@ impl Refusal {
             actual: 0,
             text_length: 0,
         }
+    }
+}
+
+/// The refusal of an AIR, with this code and no other fields.
+fn of_air(code: Code, air: usize) -> Refusal
+    ensures { result ≡ refusal_numbers (of_air code air) }
+{
+    Refusal {
+        air,
+        ..Refusal::of(code)
+    }
+}
+
+/// The refusal of a lookup of an AIR on a row.
+fn on_row(code: Code, air: usize, row: usize, lookup: usize) -> Refusal
+    ensures { result ≡ refusal_numbers (on_row code air row lookup) }
+{
+    Refusal {
+        row,
+        lookup,
+        ..of_air(code, air)
+    }
+}
+
+/// The refusal of a size that is not the one that is expected.
+fn unexpected(code: Code, expected: usize, actual: usize) -> Refusal
+    ensures { result ≡ refusal_numbers (unexpected code expected actual) }
+{
+    Refusal {
+        expected,
+        actual,
+        ..Refusal::of(code)
+    }
+}
+
+/// The refusal of a number of a part.
+fn bad_number(part: Part, air: usize, index: usize) -> Refusal
+    ensures { result ≡ refusal_numbers (bad_number part air index) }
+{
+    Refusal {
+        part: part as u32,
+        row: index,
+        ..of_air(Code::BadNumber, air)
+    }
+}
+
+/// The refusal of the length of a part.
+fn bad_length(part: Part, expected: usize, actual: usize) -> Refusal
+    ensures { result ≡ refusal_numbers (bad_length part expected actual) }
+{
+    Refusal {
+        part: part as u32,
+        ..unexpected(Code::BadLength, expected, actual)
+    }
+}
+
+/// The refusal of the rows of a part.
+fn bad_rows(code: Code, part: Part, air: usize) -> Refusal
+    ensures { result ≡ refusal_numbers (bad_rows code part air) }
+{
+    Refusal {
+        part: part as u32,
+        ..of_air(code, air)
     }
 }
 
@@ -96,103 +159,74 @@ fn trace_refusal(air: usize, fault: &TraceFault) -> Refusal
 {
     match fault {
         TraceFault::Memory => Refusal::of(Code::OutOfMemory),
-        TraceFault::Large { part, index } => Refusal {
-            part: part_of(*part) as u32,
-            air,
-            row: *index,
-            ..Refusal::of(Code::BadNumber)
-        },
-        TraceFault::Ragged { part } => Refusal {
-            part: part_of(*part) as u32,
-            air,
-            ..Refusal::of(Code::NoWholeRows)
-        },
+        TraceFault::Large { part, index } => bad_number(part_of(*part), air, *index),
+        TraceFault::Ragged { part } => bad_rows(Code::NoWholeRows, part_of(*part), air),
     }
 }
 
-fn lookup_refusal(at: usize, error: &LookupError) -> Refusal
-    ensures { result ≡ refusal_numbers (lookup_refusal at error.now) }
+/// The refusal of a witness, at the AIR that it names. No other refusal is told by it.
+fn witness_refusal(error: &LookupError) -> Refusal
+    ensures { result ≡ refusal_numbers (witness_refusal error.now) }
 {
     match error {
-        LookupError::Memory => Refusal::of(Code::OutOfMemory),
-        LookupError::VanishingDenominator { row, lookup } => Refusal {
-            air: at,
-            row: *row,
-            lookup: *lookup,
-            ..Refusal::of(Code::VanishingDenominator)
-        },
-        LookupError::FlagNotBoolean { row, lookup } => Refusal {
-            air: at,
-            row: *row,
-            lookup: *lookup,
-            ..Refusal::of(Code::FlagNotBoolean)
-        },
-        LookupError::FlagsNotExclusive { row, lookup } => Refusal {
-            air: at,
-            row: *row,
-            lookup: *lookup,
-            ..Refusal::of(Code::FlagsNotExclusive)
-        },
-        LookupError::BadRecord { lookup } => Refusal {
-            air: at,
-            lookup: *lookup,
-            ..Refusal::of(Code::MalformedLookup)
-        },
-        LookupError::BusWidthMismatch {
-            expected,
-            actual,
-            ..
-        } => Refusal {
-            expected: *expected,
-            actual: *actual,
-            ..Refusal::of(Code::BusWidths)
-        },
-        LookupError::TupleWidths { width, other, .. } => Refusal {
-            expected: *width,
-            actual: *other,
-            ..Refusal::of(Code::TupleWidths)
-        },
-        LookupError::MultiplicityHeightBoundExceeded { .. } => Refusal::of(Code::HeightBound),
         LookupError::TerminalPresenceMismatch {
             air,
             expected_present,
             got_present,
         } => Refusal {
-            air: *air,
             expected: usize::from(*expected_present),
             actual: usize::from(*got_present),
-            ..Refusal::of(Code::TerminalPresence)
+            ..of_air(Code::TerminalPresence, *air)
         },
         LookupError::PermutationWidthMismatch { air, expected } => Refusal {
-            air: *air,
             expected: *expected,
-            ..Refusal::of(Code::AuxiliaryWidth)
+            ..of_air(Code::AuxiliaryWidth, *air)
         },
-        LookupError::PermutationHeightMismatch { air } => Refusal {
-            air: *air,
-            ..Refusal::of(Code::AuxiliaryHeight)
-        },
-        LookupError::ConstraintFailed { air, row } => Refusal {
-            air: *air,
-            row: *row,
-            ..Refusal::of(Code::ConstraintFailed)
-        },
+        LookupError::PermutationHeightMismatch { air } => of_air(Code::AuxiliaryHeight, *air),
+        LookupError::ConstraintFailed { air, row } => {
+            on_row(Code::ConstraintFailed, *air, *row, 0)
+        }
         LookupError::TerminalSumNonZero => Refusal::of(Code::TerminalSum),
+        _ => Refusal::of(Code::Unmet),
+    }
+}
+
+/// The refusal of the lookup layer, at this AIR unless it names one.
+fn lookup_refusal(at: usize, error: &LookupError) -> Refusal
+    ensures { result ≡ refusal_numbers (lookup_refusal at error.now) }
+{
+    match error {
+        LookupError::Memory => Refusal::of(Code::OutOfMemory),
+        LookupError::VanishingDenominator { row, lookup } => {
+            on_row(Code::VanishingDenominator, at, *row, *lookup)
+        }
+        LookupError::FlagNotBoolean { row, lookup } => {
+            on_row(Code::FlagNotBoolean, at, *row, *lookup)
+        }
+        LookupError::FlagsNotExclusive { row, lookup } => {
+            on_row(Code::FlagsNotExclusive, at, *row, *lookup)
+        }
+        LookupError::BadRecord { lookup } => on_row(Code::MalformedLookup, at, 0, *lookup),
+        LookupError::BusWidthMismatch {
+            expected,
+            actual,
+            ..
+        } => unexpected(Code::BusWidths, *expected, *actual),
+        LookupError::TupleWidths { width, other, .. } => {
+            unexpected(Code::TupleWidths, *width, *other)
+        }
+        LookupError::MultiplicityHeightBoundExceeded { .. } => Refusal::of(Code::HeightBound),
         LookupError::CountOverflow => Refusal::of(Code::CountOverflow),
-        LookupError::CountWeightOverflow => Refusal {
-            air: at,
-            ..Refusal::of(Code::WeightOverflow)
-        },
-        LookupError::DegreeOverflow => Refusal {
-            air: at,
-            ..Refusal::of(Code::DegreeOverflow)
-        },
+        LookupError::CountWeightOverflow => of_air(Code::WeightOverflow, at),
+        LookupError::DegreeOverflow => of_air(Code::DegreeOverflow, at),
         LookupError::CommitmentMismatch
         | LookupError::PermutationLengthMismatch { .. }
-        | LookupError::Air(_) => Refusal {
-            air: at,
-            ..Refusal::of(Code::Unmet)
-        },
+        | LookupError::Air(_) => of_air(Code::Unmet, at),
+        LookupError::TerminalPresenceMismatch { .. }
+        | LookupError::PermutationWidthMismatch { .. }
+        | LookupError::PermutationHeightMismatch { .. }
+        | LookupError::ConstraintFailed { .. }
+        | LookupError::TerminalSumNonZero => witness_refusal(error),
     }
 }
 
@@ -202,21 +236,12 @@ fn batch_refusal(error: &BatchError) -> Refusal
     match error {
         BatchError::Memory => Refusal::of(Code::OutOfMemory),
         BatchError::Lookup(error) => lookup_refusal(0, error),
-        BatchError::LengthMismatch { expected, actual } => Refusal {
-            part: Part::Batch as u32,
-            expected: *expected,
-            actual: *actual,
-            ..Refusal::of(Code::BadLength)
-        },
-        BatchError::TooManyIds { ids } => Refusal {
-            actual: *ids,
-            ..Refusal::of(Code::TooManyIds)
-        },
+        BatchError::LengthMismatch { expected, actual } => {
+            bad_length(Part::Batch, *expected, *actual)
+        }
+        BatchError::TooManyIds { ids } => unexpected(Code::TooManyIds, 0, *ids),
         BatchError::UnlawfulIds => Refusal::of(Code::Unmet),
-        BatchError::TraceMismatch { air } => Refusal {
-            air: *air,
-            ..Refusal::of(Code::TraceMismatch)
-        },
+        BatchError::TraceMismatch { air } => of_air(Code::TraceMismatch, *air),
         BatchError::RepeatedChallenge => Refusal::of(Code::RepeatedChallenge),
         BatchError::Air { air, error } => lookup_refusal(*air, error),
         BatchError::CountOverflow => Refusal::of(Code::CountOverflow),
@@ -231,50 +256,19 @@ fn refusal_of(fault: &Fault) -> Refusal
         Fault::Memory => Refusal::of(Code::OutOfMemory),
         Fault::Table { air, lookup, fault } => table_refusal(*air, *lookup, fault),
         Fault::Traces { air, fault } => trace_refusal(*air, fault),
-        Fault::Large { part, air, index } => Refusal {
-            part: *part as u32,
-            air: *air,
-            row: *index,
-            ..Refusal::of(Code::BadNumber)
-        },
-        Fault::Id { index } => Refusal {
-            part: Part::Ids as u32,
-            row: *index,
-            ..Refusal::of(Code::BadNumber)
-        },
-        Fault::Width => Refusal {
-            part: Part::Sizes as u32,
-            ..Refusal::of(Code::BadNumber)
-        },
-        Fault::Rows => Refusal {
-            part: Part::Rows as u32,
-            ..Refusal::of(Code::BadNumber)
-        },
+        Fault::Large { part, air, index } => bad_number(*part, *air, *index),
+        Fault::Id { index } => bad_number(Part::Ids, 0, *index),
+        Fault::Width => bad_number(Part::Sizes, 0, 0),
+        Fault::Rows => bad_number(Part::Rows, 0, 0),
         Fault::Text(_) => Refusal::of(Code::BadText),
         Fault::Length {
             part,
             expected,
             actual,
-        } => Refusal {
-            part: *part as u32,
-            expected: *expected,
-            actual: *actual,
-            ..Refusal::of(Code::BadLength)
-        },
-        Fault::Ragged { air } => Refusal {
-            part: Part::Auxiliary as u32,
-            air: *air,
-            ..Refusal::of(Code::NoWholeRows)
-        },
-        Fault::Misfit { air } => Refusal {
-            air: *air,
-            ..Refusal::of(Code::DoesNotFit)
-        },
-        Fault::Heights { air } => Refusal {
-            part: Part::Preprocessed as u32,
-            air: *air,
-            ..Refusal::of(Code::OtherHeight)
-        },
+        } => bad_length(*part, *expected, *actual),
+        Fault::Ragged { air } => bad_rows(Code::NoWholeRows, Part::Auxiliary, *air),
+        Fault::Misfit { air } => of_air(Code::DoesNotFit, *air),
+        Fault::Heights { air } => bad_rows(Code::OtherHeight, Part::Preprocessed, *air),
         Fault::Lookup { air, error } => lookup_refusal(*air, error),
         Fault::Mismatch { .. } => Refusal::of(Code::Mismatch),
         Fault::Batch(error) => batch_refusal(error),

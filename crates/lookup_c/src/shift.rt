@@ -1,5 +1,6 @@
 //! The call that adds to the accumulators of rows, in place.
 ghost use Rattle.std.specs.Prelude.{◌≡◌, ◌≢◌, ◌/◌, ◌==◌, if◌then◌else◌, MatchOption, MatchResult, length};
+ghost use Rattle.std.specs.Result.{OnErr};
 ghost use Rattle.field.specs.laws.BabyBear.{baby_bear_positive};
 ghost use Rattle.matrix.specs.Matrix.{IsShaped};
 ghost use Rattle.lookup_tables.specs.Numbers.{AreNumberGroupsBelow, IsFirstLargeNumberGroup};
@@ -86,27 +87,20 @@ fn shift_cells<const P: u32, K: QuarticParameters<P>>(
     }
 }
 
-/// The answer of `volgwain_shift`, over any prime field below 2^31.
+/// Does what `volgwain_shift` does, over any prime field below 2^31.
 pub(crate) fn answer_shift<const P: u32, K: QuarticParameters<P>>(
     cells: &mut [[u32; 4]],
     width: usize,
     offset: &[u32; 4],
-    refusal: &mut Refusal,
-    text: &mut [u8],
-) -> u32
+) -> Result<(), Fault>
     ensures answers { let R = ⟦<MontyQuartic<P, K> as PrimeCharacteristicRing>⟧.ring in
-        CallAnswers result refusal.new (ShiftsCells K.positive cells.old width offset.now R
-        cells.new)
+        MatchResult result (λ _. ShiftsCells K.positive cells.old width offset.now R cells.new)
         (IsShiftRefusal P cells.old width offset.now) }
-    ensures kept { result ≢ 0 → cells.new ≡ cells.old }
+    ensures kept { OnErr result (cells.new ≡ cells.old) }
 {
-    match offset_of::<P, K>(cells, width, offset) {
-        Ok(element) => {
-            shift_cells::<P, K>(cells, width, element);
-            accept(refusal)
-        }
-        Err(fault) => refuse(&fault, refusal, text),
-    }
+    let element = offset_of::<P, K>(cells, width, offset)?;
+    shift_cells::<P, K>(cells, width, element);
+    Ok(())
 }
 
 /// Adds `offset` to the accumulator of each row, its first cell. A row has `width` cells.
@@ -126,5 +120,8 @@ pub extern "C" fn volgwain_shift(
         (IsShiftRefusal 2013265921 cells.old width offset.now) }
     ensures kept { result ≢ 0 → cells.new ≡ cells.old }
 {
-    answer_shift::<2_013_265_921, BabyBearParameters>(cells, width, offset, refusal, text)
+    match answer_shift::<2_013_265_921, BabyBearParameters>(cells, width, offset) {
+        Ok(()) => accept(refusal),
+        Err(fault) => refuse(&fault, refusal, text),
+    }
 }

@@ -1,5 +1,6 @@
 //! The call that counts the messages of a batch.
 ghost use Rattle.std.specs.Prelude.{◌≡◌, ◌≢◌, MatchResult};
+ghost use Rattle.std.specs.Result.{OnErr};
 ghost use Rattle.field.specs.laws.BabyBear.{baby_bear_positive};
 ghost use Rattle.lookup_c.specs.CallAnswers.{CallAnswers};
 ghost use Rattle.lookup_c.specs.SoundnessCount.{AreSoundnessCountNumbers, SoundnessCountIsNumbers, SoundnessCountOfTables, IsLinearCountBound, IsSoundnessCountRefusal};
@@ -73,28 +74,22 @@ fn count_messages<const P: u32, K: QuarticParameters<P>>(
     Ok(plan.soundness_count::<MontyQuartic<P, K>>(alloc, &given)?)
 }
 
-/// The answer of `volgwain_soundness_count`, over any prime field below 2^31.
+/// Does what `volgwain_soundness_count` does, over any prime field below 2^31.
 pub(crate) fn answer_soundness_count<const P: u32, K: QuarticParameters<P>>(
     alloc: Global,
     airs: &[Air<'_>],
     traces: &[Traces<'_>],
     counts: &mut Counts,
-    refusal: &mut Refusal,
-    text: &mut [u8],
-) -> u32
+) -> Result<(), Fault>
     ensures answers { let E = ⟦<MontyQuartic<P, K> as Over<MontyField31<P, K>>>⟧.fields in
-        CallAnswers result refusal.new (SoundnessCountIsNumbers K.positive E airs.now traces.now
-        counts.new)
+        MatchResult result
+        (λ _. SoundnessCountIsNumbers K.positive E airs.now traces.now counts.new)
         (IsSoundnessCountRefusal K.positive E airs.now traces.now) }
-    ensures kept { result ≢ 0 → counts.new ≡ counts.old }
+    ensures kept { OnErr result (counts.new ≡ counts.old) }
 {
-    match count_messages::<P, K>(alloc, airs, traces) {
-        Ok(count) => {
-            *counts = counts_of(&count);
-            accept(refusal)
-        }
-        Err(fault) => refuse(&fault, refusal, text),
-    }
+    let count = count_messages::<P, K>(alloc, airs, traces)?;
+    *counts = counts_of(&count);
+    Ok(())
 }
 
 /// Counts the messages of a batch, and bounds the challenges at which it can be accepted if they do not
@@ -116,7 +111,8 @@ pub extern "C" fn volgwain_soundness_count(
         (IsSoundnessCountRefusal baby_bear_positive E airs.now traces.now) }
     ensures kept { result ≢ 0 → counts.new ≡ counts.old }
 {
-    answer_soundness_count::<2_013_265_921, BabyBearParameters>(
-        alloc, airs, traces, counts, refusal, text,
-    )
+    match answer_soundness_count::<2_013_265_921, BabyBearParameters>(alloc, airs, traces, counts) {
+        Ok(()) => accept(refusal),
+        Err(fault) => refuse(&fault, refusal, text),
+    }
 }

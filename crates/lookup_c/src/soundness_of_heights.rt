@@ -1,5 +1,6 @@
 //! The call that bounds the challenges of a batch by the heights of its traces alone.
 ghost use Rattle.std.specs.Prelude.{◌≡◌, ◌≢◌, MatchResult};
+ghost use Rattle.std.specs.Result.{OnErr};
 ghost use Rattle.lookup_c.specs.SoundnessOfHeights.{AreHeightCountNumbers, HeightCountIsNumbers, HeightCountOfTables, IsSoundnessOfHeightsRefusal};
 ghost use Rattle.lookup_c.specs.CallAnswers.{CallAnswers};
 
@@ -55,26 +56,20 @@ fn count_by_heights<const P: u32, K: QuarticParameters<P>>(
     Ok(plan.soundness_of_heights::<MontyQuartic<P, K>>()?)
 }
 
-/// The answer of `volgwain_soundness_of_heights`, over any prime field below 2^31.
+/// Does what `volgwain_soundness_of_heights` does, over any prime field below 2^31.
 pub(crate) fn answer_soundness_of_heights<const P: u32, K: QuarticParameters<P>>(
     alloc: Global,
     airs: &[Air<'_>],
     counts: &mut HeightCounts,
-    refusal: &mut Refusal,
-    text: &mut [u8],
-) -> u32
+) -> Result<(), Fault>
     ensures answers { let E = ⟦<MontyQuartic<P, K> as Over<MontyField31<P, K>>>⟧.fields in
-        CallAnswers result refusal.new (HeightCountIsNumbers E airs.now counts.new)
+        MatchResult result (λ _. HeightCountIsNumbers E airs.now counts.new)
         (IsSoundnessOfHeightsRefusal E airs.now) }
-    ensures kept { result ≢ 0 → counts.new ≡ counts.old }
+    ensures kept { OnErr result (counts.new ≡ counts.old) }
 {
-    match count_by_heights::<P, K>(alloc, airs) {
-        Ok(count) => {
-            *counts = counts_of(&count);
-            accept(refusal)
-        }
-        Err(fault) => refuse(&fault, refusal, text),
-    }
+    let count = count_by_heights::<P, K>(alloc, airs)?;
+    *counts = counts_of(&count);
+    Ok(())
 }
 
 /// Counts the most messages that a batch over traces of these heights can have, and bounds the challenges
@@ -94,7 +89,8 @@ pub extern "C" fn volgwain_soundness_of_heights(
         (IsSoundnessOfHeightsRefusal E airs.now) }
     ensures kept { result ≢ 0 → counts.new ≡ counts.old }
 {
-    answer_soundness_of_heights::<2_013_265_921, BabyBearParameters>(
-        alloc, airs, counts, refusal, text,
-    )
+    match answer_soundness_of_heights::<2_013_265_921, BabyBearParameters>(alloc, airs, counts) {
+        Ok(()) => accept(refusal),
+        Err(fault) => refuse(&fault, refusal, text),
+    }
 }

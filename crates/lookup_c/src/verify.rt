@@ -16,11 +16,11 @@ use field::{
 use lookup_tables::Traces;
 use std::alloc::Global;
 
-/// Whether the plan that tables encode accepts the witness that numbers encode.
+/// Does what `volgwain_verify` does, over any prime field below 2^31.
 ///
 /// Refuses the first of these with a fault: the plan of the AIRs, the traces, alpha, beta, the witness,
 /// and its verification.
-fn verify_tables<const P: u32, K: QuarticParameters<P>>(
+pub(crate) fn answer_verify<const P: u32, K: QuarticParameters<P>>(
     alloc: Global,
     airs: &[Air<'_>],
     traces: &[Traces<'_>],
@@ -40,28 +40,6 @@ fn verify_tables<const P: u32, K: QuarticParameters<P>>(
     let witness = read_witness::<P, K>(alloc, witness)?;
     let given = plan_traces(alloc, &all)?;
     Ok(plan.verify(alloc, &given, alpha, beta, &witness)?)
-}
-
-/// The answer of `volgwain_verify`, over any prime field below 2^31.
-pub(crate) fn answer_verify<const P: u32, K: QuarticParameters<P>>(
-    alloc: Global,
-    airs: &[Air<'_>],
-    traces: &[Traces<'_>],
-    alpha: &[u32; 4],
-    beta: &[u32; 4],
-    witness: &[AirWitness<'_>],
-    refusal: &mut Refusal,
-    text: &mut [u8],
-) -> u32
-    ensures answers { let E = ⟦<MontyQuartic<P, K> as Over<MontyField31<P, K>>>⟧.fields in
-        CallAnswers result refusal.new
-        (VerifiesTables K.positive E airs.now traces.now alpha.now beta.now witness.now)
-        (IsVerifyRefusal K.positive E airs.now traces.now alpha.now beta.now witness.now) }
-{
-    match verify_tables::<P, K>(alloc, airs, traces, alpha, beta, witness) {
-        Ok(()) => accept(refusal),
-        Err(fault) => refuse(&fault, refusal, text),
-    }
 }
 
 /// Whether a witness of a batch, whoever made it, is accepted.
@@ -85,7 +63,10 @@ pub extern "C" fn volgwain_verify(
         (VerifiesTables baby_bear_positive E airs.now traces.now alpha.now beta.now witness.now)
         (IsVerifyRefusal baby_bear_positive E airs.now traces.now alpha.now beta.now witness.now) }
 {
-    answer_verify::<2_013_265_921, BabyBearParameters>(
-        alloc, airs, traces, alpha, beta, witness, refusal, text,
-    )
+    match answer_verify::<2_013_265_921, BabyBearParameters>(
+        alloc, airs, traces, alpha, beta, witness,
+    ) {
+        Ok(()) => accept(refusal),
+        Err(fault) => refuse(&fault, refusal, text),
+    }
 }

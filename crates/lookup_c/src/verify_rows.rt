@@ -40,12 +40,11 @@ fn instance_of<'a, const P: u32, K: QuarticParameters<P>>(
     }
 }
 
-/// Whether what a witness has for the rows around a range of an AIR holds on the rows of the range, over what
-/// tables encode.
+/// Does what `volgwain_verify_rows` does, over any prime field below 2^31.
 ///
 /// Refuses the first of these with a fault: the AIR, as `read_air` does, the range, the height of the traces,
 /// the witness, its shape, and a row on which a constraint is not zero.
-fn verify_tables<const P: u32, K: QuarticParameters<P>>(
+pub(crate) fn answer_verify_rows<const P: u32, K: QuarticParameters<P>>(
     alloc: Global,
     tables: &Tables<'_>,
     around: &Traces<'_>,
@@ -72,39 +71,6 @@ fn verify_tables<const P: u32, K: QuarticParameters<P>>(
         return Err(Fault::Batch(BatchError::Lookup(error)));
     }
     Ok(())
-}
-
-/// The answer of `volgwain_verify_rows`, over any prime field below 2^31.
-pub(crate) fn answer_verify_rows<const P: u32, K: QuarticParameters<P>>(
-    alloc: Global,
-    tables: &Tables<'_>,
-    around: &Traces<'_>,
-    rows: &Rows,
-    ids: &[usize],
-    sizes: &PlanSizes,
-    alpha: &[u32; 4],
-    beta: &[u32; 4],
-    witness: &AirWitness<'_>,
-    refusal: &mut Refusal,
-    text: &mut [u8],
-) -> u32
-    ensures answers { let E = ⟦<MontyQuartic<P, K> as Over<MontyField31<P, K>>>⟧.fields in
-        CallAnswers result refusal.new
-        (CallVerifiesRows K.positive E tables.now around.now rows.now ids.now sizes.now alpha.now
-        beta.now witness.now)
-        (IsVerifyRowsRefusal K.positive E tables.now around.now rows.now ids.now sizes.now alpha.now
-        beta.now witness.now) }
-{
-    let plan = InPlan {
-        ids,
-        sizes,
-        alpha,
-        beta,
-    };
-    match verify_tables::<P, K>(alloc, tables, around, rows, &plan, witness) {
-        Ok(()) => accept(refusal),
-        Err(fault) => refuse(&fault, refusal, text),
-    }
 }
 
 /// Whether every constraint of one AIR of a planned batch is zero on the rows of a range.
@@ -135,7 +101,16 @@ pub extern "C" fn volgwain_verify_rows(
         (IsVerifyRowsRefusal baby_bear_positive E tables.now around.now rows.now ids.now sizes.now
         alpha.now beta.now witness.now) }
 {
-    answer_verify_rows::<2_013_265_921, BabyBearParameters>(
-        alloc, tables, around, rows, ids, sizes, alpha, beta, witness, refusal, text,
-    )
+    let plan = InPlan {
+        ids,
+        sizes,
+        alpha,
+        beta,
+    };
+    match answer_verify_rows::<2_013_265_921, BabyBearParameters>(
+        alloc, tables, around, rows, &plan, witness,
+    ) {
+        Ok(()) => accept(refusal),
+        Err(fault) => refuse(&fault, refusal, text),
+    }
 }

@@ -38,6 +38,23 @@ fn sizes_of(tables: &Written) -> TableSizes
     }
 }
 
+/// The lengths of the arrays that a caller has for tables.
+pub(crate) fn room_of(
+    nodes: &[Node],
+    tuples: &[Span],
+    names: &[u8],
+    records: &[Record],
+) -> TableSizes
+    ensures { result ≡ room_of_arrays (table_arrays nodes.now tuples.now names.now records.now) }
+{
+    TableSizes {
+        nodes: nodes.len(),
+        tuples: tuples.len(),
+        names: names.len(),
+        records: records.len(),
+    }
+}
+
 /// Tables of the lookups of a set.
 ///
 /// Refuses the first lookup that no tables encode.

@@ -1,5 +1,5 @@
 -- Calls on an AIR of a planned batch, whose ids, sizes and challenges are one value of the program.
-use Rattle.std.specs.Prelude.{◌<◌, ◌≡◌, ℕ}
+use Rattle.std.specs.Prelude.{◌<◌, ◌≡◌, ℕ, List}
 use Rattle.field.specs.Residue.{Residue}
 use Rattle.field.specs.Extension.{Extension}
 use Rattle.field.specs.Quartic.{Quartic}
@@ -14,6 +14,7 @@ use Rattle.lookup_c.specs.PlannedAirs.{ArePlannedChallenges, IsPlannedAirRefusal
 use Rattle.lookup_c.specs.VerifyRows as verification
 use Rattle.lookup_c.specs.declared.fault.Fault.{Fault}
 use Rattle.lookup_c.specs.declared.generate.Generated.{Generated}
+use Rattle.lookup_c.specs.declared.outputs.Terminal.{Terminal}
 use Rattle.lookup_c.specs.declared.planned_air.InPlan.{InPlan}
 use Rattle.lookup_c.specs.declared.planned_air.PlannedAir.{PlannedAir}
 use Rattle.lookup_c.specs.declared.rows.Rows.{Rows}
@@ -40,6 +41,14 @@ module _ {p : ℕ} (positive : 0 < p) (E : Extension (Residue p) (Quartic (Resid
   abbrev pub IsByIdsRefusal : Fault → Type 0
   IsByIdsRefusal = by_ids.IsGenerateByIdsRefusal positive E tables traces plan.ids.now plan.sizes.now plan.alpha.now plan.beta.now
 
+  -- the numbers of what is generated
+  abbrev pub GeneratesNumbersInPlan : List (List ℕ) → Terminal → Type 0
+  GeneratesNumbersInPlan = by_ids.GeneratesNumbersByIds positive E tables traces plan.ids.now plan.sizes.now plan.alpha.now plan.beta.now
+
+  -- the refusal of a call with room for so many cells
+  abbrev pub IsByIdsCallRefusal : ℕ → Fault → Type 0
+  IsByIdsCallRefusal = by_ids.IsGenerateByIdsCallRefusal positive E tables traces plan.ids.now plan.sizes.now plan.alpha.now plan.beta.now
+
 module _ {p : ℕ} (positive : 0 < p) (E : Extension (Residue p) (Quartic (Residue p))) (tables : Tables) (around : Traces) (rows : Rows) (plan : InPlan) where
   -- the rows of a range are generated
   abbrev pub GeneratesInPlan : Matrix (Quartic (Residue p)) × Quartic (Residue p) → Type 0
@@ -48,6 +57,14 @@ module _ {p : ℕ} (positive : 0 < p) (E : Extension (Residue p) (Quartic (Resid
   -- or refused
   abbrev pub IsGenerationRefusal : Fault → Type 0
   IsGenerationRefusal = generation.IsGenerateRowsRefusal positive E tables around rows plan.ids.now plan.sizes.now plan.alpha.now plan.beta.now
+
+  -- the numbers of these rows
+  abbrev pub GeneratesRowNumbersInPlan : List (List ℕ) → List ℕ → Type 0
+  GeneratesRowNumbersInPlan = generation.GeneratesRowNumbers positive E tables around rows plan.ids.now plan.sizes.now plan.alpha.now plan.beta.now
+
+  -- the refusal of a call with room for so many cells
+  abbrev pub IsGenerationCallRefusal : ℕ → Fault → Type 0
+  IsGenerationCallRefusal = generation.IsGenerateRowsCallRefusal positive E tables around rows plan.ids.now plan.sizes.now plan.alpha.now plan.beta.now
 
   -- the rows of a range are verified
   abbrev pub VerifiesInPlan : AirWitness → Type 0

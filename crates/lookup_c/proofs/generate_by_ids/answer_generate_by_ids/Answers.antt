@@ -1,8 +1,16 @@
-use Rattle.lookup_c.proofs.AnswerLaws.{weaker_answer}
-use Rattle.lookup_c.proofs.GenerateLaws.{not_written, numbers_of_generated}
+use Rattle.std.proofs.Common.{inl, refl}
+use Rattle.lookup_c.proofs.AnswerLaws.{refused_is}
+use Rattle.lookup_c.proofs.GenerateLaws.{numbers_of_generated}
 use Rattle.lookup_c.proofs.generate_by_ids.answer_generate_by_ids.Goals as goal
 
+pub returns-in_err-made-clause-answers : goal.returns-in_err-made-clause-answers
+returns-in_err-made-clause-answers g c = rw (refused_is c.from_residual.result c.from_residual.ensures.1) (inl c.in_err-made.ensures)
+
+pub returns-in_err-made-clause-kept : goal.returns-in_err-made-clause-kept
+returns-in_err-made-clause-kept g c = rw (refused_is c.from_residual.result c.from_residual.ensures.1) (refl, refl)
+
 pub returns-clause-answers : goal.returns-clause-answers
-returns-clause-answers g c = weaker_answer c.write_generated.ensures.answers
-    (numbers_of_generated _ _ c.generate_tables-generated.result c.generate_tables-generated.ensures _ _)
-    (not_written _ _ c.generate_tables-generated.result c.generate_tables-generated.ensures _)
+returns-clause-answers g c = numbers_of_generated _ _ c.in_ok-made.made c.in_ok-made.ensures _ c.write_generated.result _ _ c.write_generated.ensures.answers
+
+pub returns-clause-kept : goal.returns-clause-kept
+returns-clause-kept g c = c.write_generated.ensures.kept

@@ -1,35 +1,26 @@
-use Rattle.std.proofs.Common.{◌∙◌, ap, arith, inl, inr, length, map}
-use Rattle.lookup_tables.specs.Numbers.{numbers_of}
-use Rattle.lookup_c.specs.declared.codes.Part.TheVariants.{Auxiliary}
-use Rattle.lookup_c.specs.declared.fault.Fault.TheVariants.{Length}
-use Rattle.lookup_c.proofs.AnswerLaws.{accepted_answer, refused_answer}
-use Rattle.lookup_c.proofs.WrittenLaws.{all_over}
+use Rattle.std.proofs.Common.{inl, inr, refl}
+use Rattle.lookup_c.proofs.AnswerLaws.{refused_is}
 use Rattle.lookup_c.proofs.generate_rows.answer_generate_rows.Goals as goal
 
-pub returns-then-values-auxiliary-clause-answers : goal.returns-then-values-auxiliary-clause-answers
-returns-then-values-auxiliary-clause-answers g c = refused_answer
-    (Length Auxiliary (length c.values-values.result.now) (length c.args.auxiliary.now))
-    c.refuse.ensures.code
-    c.refuse.ensures.refused
-    c.refuse.ensures.is
-    (inr (
-      c.in-Ok.made,
-      c.in-Ok.total,
-      c.in-Ok.ensures,
-      (
-        λ same. c.if-values-auxiliary.true (ap length c.values-values.ensures.values ∙ same),
-        ap (λ vs. Length Auxiliary (length vs) (length c.args.auxiliary.now)) c.values-values.ensures.values,
-      ),
-    ))
+pub returns-in_err-made-clause-answers : goal.returns-in_err-made-clause-answers
+returns-in_err-made-clause-answers g c = rw (refused_is c.from_residual.result c.from_residual.ensures.1) (inl c.in_err-made.ensures)
 
-pub returns-else-values-auxiliary-clause-answers : goal.returns-else-values-auxiliary-clause-answers
-returns-else-values-auxiliary-clause-answers g c = accepted_answer c.accept.ensures.code c.accept.ensures.accepted c.accept.ensures.is (record {
-  auxiliary = c.in-Ok.made;
-  sum = c.in-Ok.total;
-  generates = c.in-Ok.ensures;
-  cells_are = all_over numbers_of _ c.args.auxiliary.now c.write_elements.new.cells c.write_elements.ensures (omega (arith, c.if-values-auxiliary.false)) c.write_elements.auto.cells ∙ ap (map numbers_of) c.values-values.ensures.values;
+pub returns-in_err-made-clause-kept : goal.returns-in_err-made-clause-kept
+returns-in_err-made-clause-kept g c = rw (refused_is c.from_residual.result c.from_residual.ensures.1) (refl, refl)
+
+pub returns-in_err-write_cells-clause-answers : goal.returns-in_err-write_cells-clause-answers
+returns-in_err-write_cells-clause-answers g c =
+    rw (refused_is c.from_residual-in_err-write_cells.result c.from_residual-in_err-write_cells.ensures.1)
+    (inr (c.in_ok-made.made, c.in_ok-made.total, c.in_ok-made.ensures, c.in_err-write_cells.ensures.answers))
+
+pub returns-in_err-write_cells-clause-kept : goal.returns-in_err-write_cells-clause-kept
+returns-in_err-write_cells-clause-kept g c = rw (refused_is c.from_residual-in_err-write_cells.result c.from_residual-in_err-write_cells.ensures.1) (c.in_err-write_cells.ensures.kept, refl)
+
+pub returns-clause-answers : goal.returns-clause-answers
+returns-clause-answers g c = record {
+  auxiliary = c.in_ok-made.made;
+  sum = c.in_ok-made.total;
+  generates = c.in_ok-made.ensures;
+  cells_are = c.in_ok-write_cells.ensures.answers;
   total_is = c.element_numbers.ensures;
-})
-
-pub returns-in-Err-clause-answers : goal.returns-in-Err-clause-answers
-returns-in-Err-clause-answers g c = refused_answer c.in-Err.fault c.refuse-in-Err.ensures.code c.refuse-in-Err.ensures.refused c.refuse-in-Err.ensures.is (inl c.in-Err.ensures)
+}

@@ -1,5 +1,16 @@
-use Rattle.lookup_c.proofs.AnswerLaws.{accepted_answer}
+use Rattle.std.proofs.Common.{arith, refl, subst}
+use Rattle.lookup_c.specs.WrittenTables.{HasTableRoom, sizes_of_written}
+use Rattle.lookup_c.proofs.AnswerLaws.{refused_is}
 use Rattle.lookup_c.proofs.pack.answer_pack.Goals as goal
 
-pub returns-in-Ok-clause-answers : goal.returns-in-Ok-clause-answers
-returns-in-Ok-clause-answers g c = accepted_answer c.accept.ensures.code c.accept.ensures.accepted c.accept.ensures.is (c.in-Ok.made, c.in-Ok.ensures.0, c.write_tables.ensures)
+pub returns-in_err-made-clause-answers : goal.returns-in_err-made-clause-answers
+returns-in_err-made-clause-answers g c = rw (refused_is c.from_residual.result c.from_residual.ensures.1) (rw (← c.room_of-room.ensures) c.in_err-made.ensures)
+
+pub returns-in_err-made-clause-kept : goal.returns-in_err-made-clause-kept
+returns-in_err-made-clause-kept g c = rw (refused_is c.from_residual.result c.from_residual.ensures.1) (refl, refl, refl, refl)
+
+pub write_tables-requires : goal.write_tables-requires
+write_tables-requires g c = subst (HasTableRoom (sizes_of_written c.in_ok-made.made)) c.room_of-room.ensures c.in_ok-made.ensures.1
+
+pub returns-clause-answers : goal.returns-clause-answers
+returns-clause-answers g c = (c.in_ok-made.made, c.in_ok-made.ensures.0, c.write_tables.ensures)

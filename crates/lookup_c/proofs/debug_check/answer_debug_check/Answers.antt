@@ -9,7 +9,7 @@ use Rattle.lookup_tables.specs.TraceNumbers.{AreTracesOfNumbers}
 use Rattle.lookup_c.specs.DebugCheck.{IsFirstDebugMisfit, all_debug_traced}
 use Rattle.lookup_c.proofs.AnswerLaws.{refused_is}
 use Rattle.lookup_c.proofs.DebugLaws.{checks_tables}
-use Rattle.lookup_c.proofs.debug_check.check_tables.Goals as goal
+use Rattle.lookup_c.proofs.debug_check.answer_debug_check.Goals as goal
 
 pub debug_instances-requires : goal.debug_instances-requires
 debug_instances-requires g c =

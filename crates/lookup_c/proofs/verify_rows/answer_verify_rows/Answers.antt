@@ -4,7 +4,7 @@ use Rattle.lookup_c.specs.Rows.{HasCallRowsAround}
 use Rattle.lookup_c.specs.VerifyRows.{instance_with_ids}
 use Rattle.lookup_c.proofs.AnswerLaws.{refused_is}
 use Rattle.lookup_c.proofs.RowChecks.{read_fits, row_fails, rows_hold, shape_refused}
-use Rattle.lookup_c.proofs.verify_rows.verify_tables.Goals as goal
+use Rattle.lookup_c.proofs.verify_rows.answer_verify_rows.Goals as goal
 
 pub returns-in_err-air : goal.returns-in_err-air
 returns-in_err-air g c = rw (refused_is c.from_residual.result c.from_residual.ensures.1) (inl c.in_err-air.ensures)

@@ -1,7 +1,7 @@
 use Rattle.std.proofs.Common.{inl, inr, refl}
 use Rattle.lookup_c.proofs.AnswerLaws.{refused_is}
 use Rattle.lookup_c.proofs.BatchLaws.{batch_read}
-use Rattle.lookup_c.proofs.verify.verify_tables.Goals as goal
+use Rattle.lookup_c.proofs.verify.answer_verify.Goals as goal
 
 pub returns-in_err-plan : goal.returns-in_err-plan
 returns-in_err-plan g c = rw (refused_is c.from_residual.result c.from_residual.ensures.1) (inl (inl (inr (inl c.in_err-plan.ensures))))
