@@ -82,6 +82,7 @@ test_c() {
     "$work/fuzz"
     run_program docs/C.md 1
     run_program docs/C.md 2
+    run_program docs/C.md 3
     run_program docs/SCALE.md 1
     echo "the programs of docs/C.md and docs/SCALE.md write what is shown there"
 }

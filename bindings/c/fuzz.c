@@ -13,6 +13,7 @@
 
 enum { NODES = 64, TUPLES = 16, NAMES = 8, RECORDS = 4, HEIGHT = 4, TEXT = 40, GUARD = 8 };
 enum { MAIN_WIDTH = 3, PREPROCESSED_WIDTH = 2, PUBLIC_VALUES = 2, CELLS = HEIGHT * (RECORDS + 1) };
+enum { NUMBERS = 4096 };
 
 /* ---- the input ---- */
 
@@ -188,6 +189,8 @@ static void read_input(const uint8_t *data, size_t size)
                                      in.public_values, PUBLIC_VALUES};
     in.air.tables = tables;
     in.air.height = HEIGHT;
+    in.air.ids = NULL;
+    in.air.ids_length = 0;
     in.traces = traces;
     size_t records = below(RECORDS + 1), spoilt = below(8);
     for (size_t i = 0; i < records; i++)
@@ -214,6 +217,8 @@ static struct outputs {
     struct volgwain_record records[RECORDS];
     struct volgwain_table_sizes sizes;
     struct volgwain_element sum;
+    struct volgwain_fit fit;
+    size_t numbers[NUMBERS], written;
 } out, before;
 
 static struct volgwain_refusal refusal;
@@ -239,11 +244,14 @@ static uint32_t end(uint32_t code, const char *call)
 {
     struct volgwain_refusal none;
     memset(&none, 0, sizeof none);
-    must(code <= VOLGWAIN_BAD_TEXT, call);
+    must(code <= VOLGWAIN_UNLAWFUL_IDS, call);
     must(refusal.code == code, call);
     must(code != 0 || memcmp(&refusal, &none, sizeof none) == 0, call);
     must(code == 0 || memcmp(&out, &before, sizeof out) == 0, call);
-    for (size_t i = refusal.text_length < TEXT ? refusal.text_length : TEXT; i < sizeof text; i++)
+    size_t written = refusal.text_length < TEXT ? refusal.text_length : TEXT;
+    if (refusal.code != 0 && written < TEXT)
+        must(text[written++] == 0, call);
+    for (size_t i = written; i < sizeof text; i++)
         must(text[i] == 0x5a, call);
     return code;
 }
@@ -259,7 +267,7 @@ static int is_one_of(uint32_t code, uint32_t one, uint32_t other)
 static void try_tables(void)
 {
     const struct volgwain_tables *tables = &in.air.tables;
-    CALL(degrees, tables, out.degrees, tables->records_length);
+    CALL(degrees, tables, some_number(), out.degrees, tables->records_length);
     CALL(soundness_of_heights, &in.air, 1, &out.height_counts);
     size_t room = below(2) ? 0 : NODES;
     if (CALL(pack, tables, below(6), out.nodes, NODES - room / 2, out.tuples, TUPLES, out.names, sizeof out.names,
@@ -267,9 +275,131 @@ static void try_tables(void)
         struct volgwain_tables packed = {out.nodes, out.sizes.nodes, out.tuples, out.sizes.tuples,
                                          out.names, out.sizes.names, out.records, out.sizes.records};
         must(out.sizes.records <= tables->records_length, "packing has no more lookups");
-        uint32_t code = CALL(degrees, &packed, out.degrees, packed.records_length);
+        uint32_t code = CALL(degrees, &packed, 0, out.degrees, packed.records_length);
         must(is_one_of(code, VOLGWAIN_DEGREE_OVERFLOW, VOLGWAIN_OUT_OF_MEMORY), "packed lookups are lookups");
     }
+}
+
+/* ---- what is found ---- */
+
+static const size_t *at, *past; /* of the numbers that are read */
+
+static size_t number(void)
+{
+    must(at < past, "the numbers end before their layout does");
+    return *at++;
+}
+
+static size_t number_below(size_t bound)
+{
+    size_t read = number();
+    must(read < bound, "a number past its bound");
+    return read;
+}
+
+static void read_name(void)
+{
+    if (number_below(2) == 0) {
+        number_below(1);
+        number_below(RECORDS);
+    } else {
+        for (size_t bytes = number_below(NAMES + 1); bytes > 0; bytes--)
+            number_below(256);
+    }
+}
+
+static void read_tuple(size_t limit)
+{
+    for (size_t elements = number(); elements > 0; elements--)
+        number_below(VOLGWAIN_MODULUS);
+    must(number_below(VOLGWAIN_MODULUS) != 0, "a net of zero");
+    size_t places = number(), listed = number();
+    must(places > 0 && listed == (places < limit ? places : limit), "the number of places");
+    for (; listed > 0; listed--) {
+        number_below(1);
+        number_below(RECORDS);
+        number_below(HEIGHT);
+        must(number_below(VOLGWAIN_MODULUS) != 0, "a count of zero");
+    }
+}
+
+/* Reads a table. Returns whether every group balances. */
+static int read_table(size_t limit)
+{
+    int balances = 1;
+    for (size_t groups = number_below(RECORDS + 1); groups > 0; groups--) {
+        read_name();
+        size_t sent = number(), received = number(), distinct = number(), unbalanced = number(), listed = number();
+        must(distinct <= sent + received && unbalanced <= distinct, "the counts of a group");
+        must(listed == (unbalanced < limit ? unbalanced : limit), "the number of tuples");
+        for (; listed > 0; listed--)
+            read_tuple(limit);
+        balances = balances && unbalanced == 0;
+    }
+    return balances;
+}
+
+/* The laws of what is found: the numbers have their layout, and say whether all tuples balance. */
+static void try_findings(void)
+{
+    const struct volgwain_tables *tables = &in.air.tables;
+    uint32_t verdict = CALL(debug_check, tables, 1, &in.traces, 1);
+    size_t limit = below(2) ? below(4) : (size_t)-1, room = below(40);
+    uint32_t told = CALL(bus_table, tables, 1, &in.traces, 1, limit, out.numbers, room, &out.written);
+    must(told == 0 || told == verdict || told == VOLGWAIN_BAD_LENGTH || told == VOLGWAIN_OUT_OF_MEMORY,
+         "a table is refused as the check is");
+    if (told == VOLGWAIN_BAD_LENGTH && refusal.expected <= NUMBERS) {
+        must(refusal.part == VOLGWAIN_PART_NUMBERS && room < refusal.expected, "the room was too short");
+        room = refusal.expected;
+        told = CALL(bus_table, tables, 1, &in.traces, 1, limit, out.numbers, room, &out.written);
+        must((told == 0 && out.written == room) || told == VOLGWAIN_OUT_OF_MEMORY, "the room that was asked for");
+    }
+    if (told == 0) {
+        at = out.numbers;
+        past = at + out.written;
+        must(read_table(limit) == (verdict == 0), "a table balances as the check says");
+        must(at == past, "a table has no more numbers");
+    }
+    told = CALL(mismatch, tables, 1, &in.traces, 1, limit, out.numbers, NUMBERS, &out.written);
+    if (told == 0) {
+        at = out.numbers;
+        past = at + out.written;
+        if (number_below(2) == 0) {
+            must(verdict == 0, "no mismatch, as the check says");
+        } else {
+            must(verdict == VOLGWAIN_MISMATCH, "a mismatch, as the check says");
+            read_name();
+            read_tuple(limit);
+        }
+        must(at == past, "a mismatch has no more numbers");
+    }
+}
+
+/* ---- a witness ---- */
+
+static const uint32_t unfit[] = {0, VOLGWAIN_DOES_NOT_FIT, VOLGWAIN_DOES_NOT_FIT, VOLGWAIN_OTHER_HEIGHT};
+
+/* The calls under challenges of the caller's own. The laws: generation refuses what does not fit; what is generated
+   satisfies every constraint. */
+static void try_air(void)
+{
+    static struct volgwain_element auxiliary[CELLS];
+    const struct volgwain_tables *tables = &in.air.tables;
+    size_t cells = tables->records_length == 0 ? 0 : HEIGHT * (tables->records_length + 1);
+    struct volgwain_element challenges[2 * RECORDS];
+    for (size_t i = 0; i < 2 * RECORDS; i++)
+        challenges[i] = i % 2 ? beta : alpha;
+    int fits = CALL(fit_fault, tables, &in.traces, &out.fit) == 0;
+    uint32_t code = CALL(generate, tables, &in.traces, challenges, 2 * tables->records_length, out.auxiliary, cells,
+                         &out.terminal);
+    if (fits && out.fit.reason != VOLGWAIN_FIT_OK)
+        must(code == unfit[out.fit.reason] || code == VOLGWAIN_OUT_OF_MEMORY, "what does not fit is refused");
+    else if (fits)
+        must(code != VOLGWAIN_DOES_NOT_FIT && code != VOLGWAIN_OTHER_HEIGHT, "what fits is not refused for it");
+    memcpy(auxiliary, out.auxiliary, sizeof auxiliary);
+    struct volgwain_air_witness witness = {auxiliary, cells, cells / HEIGHT, out.terminal};
+    uint32_t verdict = CALL(verify_air, tables, &in.traces, challenges, 2 * tables->records_length, &witness);
+    must(code != 0 || verdict == 0 || verdict == VOLGWAIN_OUT_OF_MEMORY, "what is generated is satisfied");
 }
 
 /* The calls on tables and traces. Returns whether there is a witness. The laws: what is proved satisfies all
@@ -278,10 +408,6 @@ static int try_traces(void)
 {
     const struct volgwain_tables *tables = &in.air.tables;
     size_t cells = tables->records_length == 0 ? 0 : HEIGHT * (tables->records_length + 1);
-    struct volgwain_element challenges[2 * RECORDS];
-    for (size_t i = 0; i < 2 * RECORDS; i++)
-        challenges[i] = i % 2 ? beta : alpha;
-    CALL(generate, tables, &in.traces, challenges, 2 * tables->records_length, out.auxiliary, cells, &out.terminal);
     CALL(soundness_count, &in.air, 1, &in.traces, 1, &out.counts);
     CALL(grid_count, &in.air, 1, &in.traces, 1, &alpha, 1, &beta, 1, &out.grid);
     int balances = CALL(debug_check, tables, 1, &in.traces, 1) == 0;
@@ -327,6 +453,8 @@ int LLVMFuzzerTestOneInput(const uint8_t *data, size_t size)
          out.records, RECORDS, &out.sizes);
     read_input(data, size);
     try_tables();
+    try_air();
+    try_findings();
 #ifdef FIXED_INPUTS
     return try_traces();
 #else

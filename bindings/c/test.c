@@ -1,5 +1,5 @@
-/* The calls of volgwain.h on small traces: their answers, each code but 14, 23 and 25, which take billions of
-   lookups, messages or nodes, memory that runs out at each request, four threads at once, and a stack of
+/* The calls of volgwain.h on small traces: their answers, each code but 14 and 23, which take billions of lookups
+   or messages, memory that runs out at each request, four threads at once, and a stack of
    256 KB, or of 384 KB to read JSON. */
 #define _POSIX_C_SOURCE 200809L
 #include "volgwain.h"
@@ -51,6 +51,7 @@ static void check_sizes(void)
     SIZE(height_counts, 56);
     SIZE(grid, 40);
     SIZE(rows, 24);
+    SIZE(fit, 56);
 }
 
 /* ---- arrays without items, which are NULL ---- */
@@ -70,6 +71,7 @@ static void check_null_airs(void)
     struct volgwain_terminal terminal = {1, {{1, 0, 0, 0}}};
     struct volgwain_element sum = {{1, 0, 0, 0}};
     struct volgwain_table_sizes written = {1, 1, 1, 1};
+    struct volgwain_fit fit = {9, 9, 9, 9, 9, 9, 9, 9};
     struct volgwain_refusal refusal;
     memset(&refusal, 0, sizeof refusal);
     check(volgwain_generate(&no_tables, &no_traces, NULL, 0, NULL, 0, &terminal, &refusal, NULL, 0)
@@ -92,7 +94,12 @@ static void check_null_airs(void)
             == VOLGWAIN_OK,
         "verify_rows with NULL");
     check(volgwain_shift(NULL, 0, 1, &one, &refusal, NULL, 0) == VOLGWAIN_OK, "shift with NULL");
-    check(volgwain_degrees(&no_tables, NULL, 0, &refusal, NULL, 0) == VOLGWAIN_OK, "degrees with NULL");
+    check(volgwain_verify_air(&no_tables, &no_traces, NULL, 0, &witness, &refusal, NULL, 0) == VOLGWAIN_OK,
+        "verify_air with NULL");
+    check(volgwain_fit_fault(&no_tables, &no_traces, &fit, &refusal, NULL, 0) == VOLGWAIN_OK
+            && fit.reason == VOLGWAIN_FIT_OK && fit.preprocessed_height == 0,
+        "fit_fault with NULL");
+    check(volgwain_degrees(&no_tables, 0, NULL, 0, &refusal, NULL, 0) == VOLGWAIN_OK, "degrees with NULL");
     check(volgwain_pack(&no_tables, 3, NULL, 0, NULL, 0, NULL, 0, NULL, 0, &written, &refusal, NULL, 0)
                 == VOLGWAIN_OK
             && written.nodes + written.tuples + written.names + written.records == 0,
@@ -120,7 +127,7 @@ static void check_null_batches(void)
     struct volgwain_grid grid;
     struct volgwain_terminal terminal;
     struct volgwain_refusal refusal;
-    size_t airs;
+    size_t airs, number, written;
     memset(&sizes, 0, sizeof sizes);
     memset(&counts, 0, sizeof counts);
     memset(&height_counts, 0, sizeof height_counts);
@@ -129,6 +136,8 @@ static void check_null_batches(void)
     memset(&refusal, 0, sizeof refusal);
     air.tables = no_tables;
     air.height = 0;
+    air.ids = NULL;
+    air.ids_length = 0;
     for (airs = 0; airs <= 1; airs++) {
         const struct volgwain_air *list = airs == 0 ? NULL : &air;
         const struct volgwain_traces *traces = airs == 0 ? NULL : &no_traces;
@@ -153,6 +162,23 @@ static void check_null_batches(void)
         check(volgwain_debug_check(airs == 0 ? NULL : &no_tables, airs, traces, airs, &refusal, NULL, 0)
                 == VOLGWAIN_OK,
             "debug_check with NULL");
+        number = written = 9;
+        check(volgwain_bus_table(airs == 0 ? NULL : &no_tables, airs, traces, airs, 9, NULL, 0, &written,
+                  &refusal, NULL, 0)
+                    == VOLGWAIN_BAD_LENGTH
+                && refusal.expected == 1 && written == 9,
+            "bus_table into NULL");
+        check(volgwain_bus_table(airs == 0 ? NULL : &no_tables, airs, traces, airs, 9, &number, 1, &written,
+                  &refusal, NULL, 0)
+                    == VOLGWAIN_OK
+                && number == 0 && written == 1,
+            "bus_table with NULL");
+        number = written = 9;
+        check(volgwain_mismatch(airs == 0 ? NULL : &no_tables, airs, traces, airs, 9, &number, 1, &written,
+                  &refusal, NULL, 0)
+                    == VOLGWAIN_OK
+                && number == 0 && written == 1,
+            "mismatch with NULL");
     }
 }
 
@@ -160,7 +186,7 @@ static void check_null_batches(void)
 
 static void check_abi(void)
 {
-    check(VOLGWAIN_ABI == 1 && volgwain_abi_1() == 1, "the number of the interface");
+    check(VOLGWAIN_ABI == 2 && volgwain_abi_2() == 2, "the number of the interface");
 }
 
 /* ---- memory: how many blocks are live, how many were asked for, and which requests are refused ---- */
@@ -297,10 +323,11 @@ static int is_untouched(const struct range *it)
         && memcmp(&it->terminal, &before.terminal, sizeof before.terminal) == 0;
 }
 
+/* the text is this one, with a closing zero */
 static int has_text(const struct volgwain_refusal *refusal, const char *text, const char *expected)
 {
     return refusal->text_length == strlen(expected)
-        && memcmp(text, expected, strlen(expected)) == 0;
+        && memcmp(text, expected, strlen(expected) + 1) == 0;
 }
 
 /* a call is refused with these places, and has written nothing else */
@@ -426,6 +453,194 @@ static void check_generation(void)
         "no lookups, no terminal");
 }
 
+/* ---- the same AIR verified under its challenges ---- */
+
+struct verdict {
+    struct range one;
+    struct volgwain_element cells[4];
+    struct volgwain_air_witness witness;
+    size_t challenges_length;
+};
+
+/* the witness that is_generated knows */
+static void make_verdict(struct verdict *it)
+{
+    static const uint32_t cells[4] = {0, MINUS_HALF, MINUS_HALF, HALF};
+    int i;
+    make_range(&it->one);
+    memset(it->cells, 0, sizeof it->cells);
+    for (i = 0; i < 4; i++)
+        it->cells[i].c[0] = cells[i];
+    memset(&it->witness, 0, sizeof it->witness);
+    it->witness.auxiliary = it->cells;
+    it->witness.auxiliary_length = 4;
+    it->witness.width = 2;
+    it->witness.terminal.present = 1;
+    it->challenges_length = 2;
+}
+
+static uint32_t verify_air(struct verdict *it)
+{
+    struct range *one = &it->one;
+    return volgwain_verify_air(&one->tables, &one->traces, one->challenges, it->challenges_length, &it->witness,
+        &one->refusal, one->text, sizeof one->text);
+}
+
+static void check_verdict(struct verdict *it, const char *what, uint32_t code, uint32_t part, size_t row,
+    size_t expected, size_t actual)
+{
+    const struct volgwain_refusal *r = &it->one.refusal;
+    uint32_t answer = verify_air(it);
+    check(answer == code && r->code == code && r->part == part && r->air == 0 && r->row == row
+            && r->lookup == 0 && r->expected == expected && r->actual == actual && r->text_length > 0,
+        what);
+}
+
+static void check_air_verification(void)
+{
+    static const struct volgwain_element more[3] = {{{5, 0, 0, 0}}, {{2, 0, 0, 0}}, {{1, 1, 1, 1}}};
+    struct verdict it;
+    make_verdict(&it);
+    check(verify_air(&it) == VOLGWAIN_OK && it.one.refusal.code == 0 && it.one.refusal.text_length == 0,
+        "an AIR is verified under its challenges");
+    check(volgwain_verify_air(&it.one.tables, &it.one.traces, more, 3, &it.witness, &it.one.refusal, NULL, 0)
+            == VOLGWAIN_OK,
+        "further challenges are ignored");
+    it.one.challenges[0].c[0] = 6;
+    check_verdict(&it, "another alpha", VOLGWAIN_CONSTRAINT_FAILED, 0, 0, 0, 0);
+    make_verdict(&it);
+    it.witness.terminal.value.c[3] = 1;
+    check_verdict(&it, "another terminal", VOLGWAIN_CONSTRAINT_FAILED, 0, 1, 0, 0);
+    /* 4 is provided once more, so the fraction on row 0 and the terminal are less by one: each constraint is zero,
+       and the sum of a batch is not looked at */
+    make_verdict(&it);
+    it.one.main[2] = 2;
+    it.cells[1].c[0] = it.cells[2].c[0] = MINUS_HALF - 1;
+    it.witness.terminal.value.c[0] = VOLGWAIN_MODULUS - 1;
+    check(verify_air(&it) == VOLGWAIN_OK, "a terminal that is not zero");
+    make_verdict(&it);
+    it.one.tables.records_length = 0;
+    check_verdict(&it, "a terminal without lookups", VOLGWAIN_TERMINAL_PRESENCE, 0, 0, 0, 1);
+    it.witness.terminal.present = 0;
+    check_verdict(&it, "cells without lookups", VOLGWAIN_AUXILIARY_WIDTH, 0, 0, 0, 0);
+    it.witness.auxiliary_length = it.witness.width = 0;
+    check(verify_air(&it) == VOLGWAIN_OK, "nothing is verified without lookups");
+}
+
+/* Each of these has what the one before it is refused for as well, which is tested later. */
+static void check_refused_air(void)
+{
+    struct verdict it;
+    make_verdict(&it);
+    it.cells[3].c[2] = 1;
+    check_verdict(&it, "a fraction", VOLGWAIN_CONSTRAINT_FAILED, 0, 1, 0, 0);
+    check(has_text(&it.one.refusal, it.one.text, "air 0: constraint failed at row 1"), "the text of a row");
+    it.cells[0].c[1] = 1;
+    check_verdict(&it, "an accumulator", VOLGWAIN_CONSTRAINT_FAILED, 0, 0, 0, 0);
+    it.witness.auxiliary_length = 2;
+    check_verdict(&it, "one row", VOLGWAIN_AUXILIARY_HEIGHT, 0, 0, 0, 0);
+    it.witness.auxiliary_length = it.witness.width = 4;
+    check_verdict(&it, "width 4", VOLGWAIN_AUXILIARY_WIDTH, 0, 0, 2, 0);
+    it.witness.terminal.present = 0;
+    check_verdict(&it, "no terminal", VOLGWAIN_TERMINAL_PRESENCE, 0, 0, 1, 0);
+    it.challenges_length = 1;
+    check_verdict(&it, "one challenge", VOLGWAIN_BAD_LENGTH, VOLGWAIN_PART_CHALLENGES, 0, 2, 1);
+    it.one.traces.preprocessed_length = 3;
+    it.one.traces.preprocessed_width = 1;
+    check_verdict(&it, "three rows", VOLGWAIN_OTHER_HEIGHT, VOLGWAIN_PART_PREPROCESSED, 0, 0, 0);
+    it.one.nodes[3].index = 3;
+    check_verdict(&it, "a column past the trace", VOLGWAIN_DOES_NOT_FIT, 0, 0, 0, 0);
+    it.witness.terminal.present = 1;
+    it.witness.terminal.value.c[2] = VOLGWAIN_MODULUS;
+    check_verdict(&it, "a terminal", VOLGWAIN_BAD_NUMBER, VOLGWAIN_PART_TERMINALS, 0, 0, 0);
+    it.cells[2].c[1] = VOLGWAIN_MODULUS;
+    check_verdict(&it, "a cell", VOLGWAIN_BAD_NUMBER, VOLGWAIN_PART_AUXILIARY, 2, 0, 0);
+    it.witness.width = 3;
+    check_verdict(&it, "ragged", VOLGWAIN_NO_WHOLE_ROWS, VOLGWAIN_PART_AUXILIARY, 0, 0, 0);
+    it.one.challenges[0].c[3] = VOLGWAIN_MODULUS;
+    check_verdict(&it, "alpha", VOLGWAIN_BAD_NUMBER, VOLGWAIN_PART_CHALLENGES, 0, 0, 0);
+    it.one.preprocessed[1] = VOLGWAIN_MODULUS;
+    check_verdict(&it, "a preprocessed cell", VOLGWAIN_BAD_NUMBER, VOLGWAIN_PART_PREPROCESSED, 1, 0, 0);
+    it.one.main[4] = VOLGWAIN_MODULUS;
+    check_verdict(&it, "a cell of the trace", VOLGWAIN_BAD_NUMBER, VOLGWAIN_PART_MAIN, 4, 0, 0);
+    it.one.traces.main_length = 5;
+    check_verdict(&it, "a ragged trace", VOLGWAIN_NO_WHOLE_ROWS, VOLGWAIN_PART_MAIN, 0, 0, 0);
+    it.one.records[0].kind = 2;
+    check_verdict(&it, "no kind of bus", VOLGWAIN_BAD_TABLE, 4, 0, 0, 0);
+}
+
+/* ---- whether it fits its traces ---- */
+
+static uint32_t fit_fault(struct range *it, struct volgwain_fit *fit)
+{
+    return volgwain_fit_fault(&it->tables, &it->traces, fit, &it->refusal, it->text, sizeof it->text);
+}
+
+static void check_fit(struct range *it, const char *what, uint32_t reason, uint32_t part, size_t lookup,
+    size_t row, size_t column, size_t width)
+{
+    struct volgwain_fit fit;
+    memset(&fit, 9, sizeof fit);
+    check(fit_fault(it, &fit) == VOLGWAIN_OK && it->refusal.code == 0 && fit.reason == reason && fit.part == part
+            && fit.lookup == lookup && fit.row == row && fit.column == column && fit.width == width
+            && fit.height == 0 && fit.preprocessed_height == 0,
+        what);
+}
+
+static void check_fits(void)
+{
+    struct range it;
+    struct volgwain_fit fit;
+    struct volgwain_record two[2];
+    make_range(&it);
+    check_fit(&it, "the worked rows fit", VOLGWAIN_FIT_OK, 0, 0, 0, 0, 0);
+    it.nodes[3].number = 1;
+    check_fit(&it, "and so does the next row", VOLGWAIN_FIT_OK, 0, 0, 0, 0, 0);
+    it.nodes[3].number = 2;
+    check_fit(&it, "but no other row", VOLGWAIN_FIT_MISSING, VOLGWAIN_PART_MAIN, 0, 2, 2, 3);
+
+    /* each of these has what the one before it has as well, which is looked at later */
+    make_range(&it);
+    it.traces.preprocessed_length = 3;
+    it.traces.preprocessed_width = 1;
+    memset(&fit, 9, sizeof fit);
+    check(fit_fault(&it, &fit) == VOLGWAIN_OK && fit.reason == VOLGWAIN_FIT_HEIGHTS && fit.part == 0
+            && fit.lookup == 0 && fit.row == 0 && fit.column == 0 && fit.width == 0 && fit.height == 2
+            && fit.preprocessed_height == 3,
+        "three rows beside two");
+    it.nodes[3].index = 8;
+    check_fit(&it, "a multiplicity", VOLGWAIN_FIT_MISSING, VOLGWAIN_PART_MAIN, 0, 0, 8, 3);
+    it.nodes[1].kind = VOLGWAIN_PUBLIC;
+    it.traces.public_values_length = 1;
+    check_fit(&it, "a public value", VOLGWAIN_FIT_MISSING, VOLGWAIN_PART_PUBLIC_VALUES, 0, 0, 1, 1);
+    it.nodes[0].kind = VOLGWAIN_PREPROCESSED;
+    it.nodes[0].number = 1;
+    it.nodes[0].index = 1;
+    check_fit(&it, "a preprocessed column", VOLGWAIN_FIT_MISSING, VOLGWAIN_PART_PREPROCESSED, 0, 1, 1, 1);
+    two[1] = it.records[0];
+    two[0] = it.records[0];
+    two[0].tuples.start = two[0].tuples.end;
+    two[0].multiplicities.start = two[0].multiplicities.end;
+    it.tables.records = two;
+    it.tables.records_length = 2;
+    check_fit(&it, "the second lookup", VOLGWAIN_FIT_MISSING, VOLGWAIN_PART_PREPROCESSED, 1, 1, 1, 1);
+    two[1].multiplicities.end = 3;
+    check_fit(&it, "one multiplicity for two tuples", VOLGWAIN_FIT_MALFORMED, 0, 1, 0, 0, 0);
+
+    memset(&fit, 9, sizeof fit);
+    it.main[4] = VOLGWAIN_MODULUS;
+    check(fit_fault(&it, &fit) == VOLGWAIN_BAD_NUMBER && it.refusal.part == VOLGWAIN_PART_MAIN
+            && it.refusal.row == 4 && it.refusal.text_length > 0,
+        "a cell past the modulus");
+    it.traces.main_length = 5;
+    check(fit_fault(&it, &fit) == VOLGWAIN_NO_WHOLE_ROWS && it.refusal.part == VOLGWAIN_PART_MAIN, "ragged");
+    two[0].kind = 2;
+    check(fit_fault(&it, &fit) == VOLGWAIN_BAD_TABLE && it.refusal.part == 4 && it.refusal.lookup == 0,
+        "no kind of bus");
+    check(fit.reason == 0x09090909 && fit.preprocessed_height == fit.lookup && fit.lookup != 0,
+        "a refused fit is kept");
+}
+
 /* ---- two AIRs on a bus: keys 3 and 3, and the entries 3, used twice, and 4, never used ---- */
 
 struct bus {
@@ -475,6 +690,8 @@ static void make_bus(struct bus *it)
         tables->records = air == 0 ? it->asks : it->provides;
         tables->records_length = 1;
         it->airs[air].height = 2;
+        it->airs[air].ids = NULL;
+        it->airs[air].ids_length = 0;
         traces->main = air == 0 ? it->keys : it->entries;
         traces->main_width = air == 0 ? 1 : 2;
         traces->main_length = 2 * traces->main_width;
@@ -705,6 +922,8 @@ static void check_tuple_widths(void)
     one.tuples[0].end = 2;
     air.tables = one.tables;
     air.height = 2;
+    air.ids = NULL;
+    air.ids_length = 0;
     check(volgwain_prove(&air, 1, &one.traces, 1, &one.challenges[0], &one.challenges[1], one.auxiliary, 4,
               &one.terminal, 1, &one.refusal, one.text, sizeof one.text)
                 == VOLGWAIN_TUPLE_WIDTHS
@@ -760,17 +979,33 @@ static void check_degrees(void)
     size_t degrees[2] = {9, 9};
     make_range(&it);
     /* two tuples of degree 1: 1 + (1 + 1) */
-    check(volgwain_degrees(&it.tables, degrees, 1, &it.refusal, it.text, sizeof it.text) == VOLGWAIN_OK
+    check(volgwain_degrees(&it.tables, 0, degrees, 1, &it.refusal, it.text, sizeof it.text) == VOLGWAIN_OK
             && degrees[0] == 3 && degrees[1] == 9,
         "the degree of two tuples");
     degrees[0] = 9;
-    check(volgwain_degrees(&it.tables, degrees, 2, &it.refusal, it.text, sizeof it.text)
+    check(volgwain_degrees(&it.tables, 0, degrees, 2, &it.refusal, it.text, sizeof it.text)
                 == VOLGWAIN_BAD_LENGTH
             && it.refusal.part == VOLGWAIN_PART_DEGREES && it.refusal.expected == 1
             && it.refusal.actual == 2 && degrees[0] == 9 && degrees[1] == 9,
         "room for two degrees");
+    /* a transition and a column: 1 + (t + 1), where a multiplicity of degree 1 stands over the transition alone */
+    it.nodes[0].kind = VOLGWAIN_TRANSITION;
+    check(volgwain_degrees(&it.tables, 0, degrees, 1, &it.refusal, it.text, sizeof it.text) == VOLGWAIN_OK
+            && degrees[0] == 2,
+        "a transition of degree 0");
+    check(volgwain_degrees(&it.tables, 5, degrees, 1, &it.refusal, it.text, sizeof it.text) == VOLGWAIN_OK
+            && degrees[0] == 7,
+        "a transition of degree 5");
+    check(volgwain_degrees(&it.tables, SIZE_MAX - 2, degrees, 1, &it.refusal, it.text, sizeof it.text)
+                == VOLGWAIN_OK
+            && degrees[0] == SIZE_MAX,
+        "the greatest degree");
+    check(volgwain_degrees(&it.tables, SIZE_MAX - 1, degrees, 2, &it.refusal, it.text, sizeof it.text)
+                == VOLGWAIN_DEGREE_OVERFLOW
+            && it.refusal.air == 0 && it.refusal.text_length > 0 && degrees[0] == SIZE_MAX && degrees[1] == 9,
+        "a degree past it");
     it.records[0].multiplicities.end = 3;
-    check(volgwain_degrees(&it.tables, degrees, 1, &it.refusal, it.text, sizeof it.text)
+    check(volgwain_degrees(&it.tables, SIZE_MAX, degrees, 1, &it.refusal, it.text, sizeof it.text)
             == VOLGWAIN_MALFORMED_LOOKUP,
         "degrees of a malformed lookup");
 }
@@ -796,6 +1031,59 @@ static void check_planning(void)
     it.provides[0].kind = 0;
     check(plan(&it, ids, 2, &sizes) == VOLGWAIN_OK && ids[0] == 0 && ids[1] == 1 && sizes.num_ids == 2,
         "a local lookup has its own");
+}
+
+/* Both AIRs with the id 2: with alpha 1 its prefix is 1 + 3 * 2^1 = 7, as that of the one id with alpha 5. */
+static void give_ids(struct bus *it, const size_t *first, const size_t *second)
+{
+    make_bus(it);
+    it->airs[0].ids = first;
+    it->airs[0].ids_length = 1;
+    it->airs[1].ids = second;
+    it->airs[1].ids_length = 1;
+    it->alpha.c[0] = 1;
+}
+
+static void check_unlawful(struct bus *it, const char *what)
+{
+    struct volgwain_plan_sizes sizes = {9, 9};
+    size_t ids[2] = {9, 9};
+    check_unproved(it, what, VOLGWAIN_UNLAWFUL_IDS, 0, 0, 0, 0, 0, 0);
+    check(has_text(&it->refusal, it->text, "ids are not lawful"), "the text of unlawful ids");
+    check(plan(it, ids, 2, &sizes) == VOLGWAIN_UNLAWFUL_IDS && ids[0] == 9 && sizes.num_ids == 9, what);
+}
+
+static void check_given_ids(void)
+{
+    static const size_t two[2] = {2, 2}, three[1] = {3}, most[1] = {SIZE_MAX};
+    struct bus it;
+    struct volgwain_plan_sizes sizes = {9, 9};
+    size_t ids[2] = {9, 9};
+    give_ids(&it, two, two);
+    check(plan(&it, ids, 2, &sizes) == VOLGWAIN_OK && ids[0] == 2 && ids[1] == 2
+            && sizes.max_message_width == 1 && sizes.num_ids == 3,
+        "ids that are given are those of the plan");
+    check(prove(&it) == VOLGWAIN_OK && is_proved(&it), "the batch is proved under given ids");
+    check(verify(&it) == VOLGWAIN_OK, "and verified");
+    it.alpha.c[0] = 5;
+    check(verify(&it) == VOLGWAIN_CONSTRAINT_FAILED, "not under another alpha");
+    it.airs[0].ids_length = it.airs[1].ids_length = 0;
+    check(verify(&it) == VOLGWAIN_OK, "which is that of the plan's own ids");
+
+    give_ids(&it, two, three);
+    check_unlawful(&it, "two ids on one bus");
+    give_ids(&it, two, two);
+    it.airs[1].ids_length = 0;
+    check_unlawful(&it, "an AIR without ids");
+    give_ids(&it, two, two);
+    it.airs[0].ids_length = 2;
+    check_unlawful(&it, "two ids for one lookup");
+    give_ids(&it, two, two);
+    it.provides[0].kind = 0;
+    check_unlawful(&it, "a local lookup with the id of a bus");
+    /* there is no number that it is below */
+    give_ids(&it, most, most);
+    check_unlawful(&it, "the greatest id");
 }
 
 static uint32_t count(struct bus *it, const struct volgwain_element *alphas, size_t alphas_length,
@@ -1123,6 +1411,8 @@ static uint32_t terminal_of(struct pack *it, const struct volgwain_tables *table
     memset(auxiliary, 0, sizeof auxiliary);
     air.tables = *tables;
     air.height = 2;
+    air.ids = NULL;
+    air.ids_length = 0;
     return volgwain_prove(&air, 1, &it->traces, 1, &alpha, &beta, auxiliary, 2 * columns, terminal, 1,
         &it->refusal, it->text, sizeof it->text);
 }
@@ -1145,7 +1435,7 @@ static void check_packing(void)
     packed.names_length = it.sizes.names;
     packed.records = it.packed_records;
     packed.records_length = it.sizes.records;
-    check(volgwain_degrees(&packed, degrees, 3, &it.refusal, it.text, sizeof it.text) == VOLGWAIN_OK
+    check(volgwain_degrees(&packed, 0, degrees, 3, &it.refusal, it.text, sizeof it.text) == VOLGWAIN_OK
             && degrees[0] == 2 && degrees[1] == 3 && degrees[2] == 2,
         "the degrees of the packed lookups");
     memset(&one, 0, sizeof one);
@@ -1335,6 +1625,174 @@ static void check_debugging(void)
     check(debug_check(&it, 1) == VOLGWAIN_DOES_NOT_FIT, "a column past the trace");
 }
 
+/* ---- what is found, as numbers: the two AIRs on a bus, with the keys 3 and 5 ----
+
+   3 is sent once and provided twice, 5 is sent once, and 4 is provided no times. */
+
+#define MINUS_ONE (VOLGWAIN_MODULUS - 1)
+#define MINUS_TWO (VOLGWAIN_MODULUS - 2)
+#define MOST_NUMBERS 40
+
+struct found {
+    struct bus two;
+    struct volgwain_tables tables[2];
+    size_t limit;
+    size_t numbers[MOST_NUMBERS], numbers_length, written;
+};
+
+typedef uint32_t telling(const struct volgwain_tables *, size_t, const struct volgwain_traces *, size_t, size_t,
+    size_t *, size_t, size_t *, struct volgwain_refusal *, char *, size_t);
+
+static void make_found(struct found *it, size_t limit)
+{
+    int air;
+    make_bus(&it->two);
+    it->two.keys[1] = 5;
+    for (air = 0; air < 2; air++)
+        it->tables[air] = it->two.airs[air].tables;
+    it->limit = limit;
+    memset(it->numbers, 9, sizeof it->numbers);
+    it->numbers_length = MOST_NUMBERS;
+    it->written = 9;
+}
+
+static uint32_t tell(struct found *it, telling *call)
+{
+    struct bus *two = &it->two;
+    return call(it->tables, 2, two->traces, two->traces_length, it->limit, it->numbers, it->numbers_length,
+        &it->written, &two->refusal, two->text, sizeof two->text);
+}
+
+/* Whether all numbers are kept from this one on. */
+static int are_numbers_kept(const struct found *it, size_t from)
+{
+    struct found before;
+    make_found(&before, 0);
+    return memcmp(&it->numbers[from], &before.numbers[from], (MOST_NUMBERS - from) * sizeof *it->numbers) == 0;
+}
+
+/* These numbers, and no others, are told; in so much room as they need, too, and not in less. */
+static void check_told(struct found *it, telling *call, const char *what, const size_t *numbers, size_t count)
+{
+    struct volgwain_refusal *r = &it->two.refusal;
+    int exact;
+    for (exact = 0; exact < 2; exact++) {
+        memset(it->numbers, 9, sizeof it->numbers);
+        it->written = 9;
+        it->numbers_length = exact ? count : MOST_NUMBERS;
+        check(tell(it, call) == VOLGWAIN_OK && r->code == 0 && r->text_length == 0 && it->written == count
+                && memcmp(it->numbers, numbers, count * sizeof *numbers) == 0 && are_numbers_kept(it, count),
+            what);
+    }
+    memset(it->numbers, 9, sizeof it->numbers);
+    it->written = 9;
+    it->numbers_length = count - 1;
+    check(tell(it, call) == VOLGWAIN_BAD_LENGTH && r->code == VOLGWAIN_BAD_LENGTH
+            && r->part == VOLGWAIN_PART_NUMBERS && r->air == 0 && r->row == 0 && r->lookup == 0
+            && r->expected == count && r->actual == count - 1 && it->written == 9 && are_numbers_kept(it, 0),
+        what);
+    check(r->text_length > 0, what);
+}
+
+static void check_tables(void)
+{
+    static const size_t all[] = {1, /* one group: a bus of four bytes */
+        1, 4, 'k', 'e', 'y', 's', 2, 1, 2, 2, 2,
+        1, 3, MINUS_ONE, 2, 2, 0, 0, 0, 1, 1, 0, 0, MINUS_TWO, /* 3, on the first rows of both AIRs */
+        1, 5, 1, 1, 1, 0, 0, 1, 1};
+    static const size_t one[] = {
+        1, 1, 4, 'k', 'e', 'y', 's', 2, 1, 2, 2, 1, 1, 3, MINUS_ONE, 2, 1, 0, 0, 0, 1};
+    static const size_t none[] = {1, 1, 4, 'k', 'e', 'y', 's', 2, 1, 2, 2, 0};
+    static const size_t balanced[] = {1, 1, 4, 'k', 'e', 'y', 's', 2, 1, 1, 0, 0};
+    static const size_t groups[] = {2, 0, 1, 0, 0, 1, 1, 1, 0, /* AIR 1's lookup 0, local, and then the bus */
+        1, 4, 'k', 'e', 'y', 's', 2, 0, 2, 2, 0};
+    struct found it;
+    make_found(&it, 2);
+    check_told(&it, volgwain_bus_table, "the table of a bus", all, COUNT(all));
+    check(has_text(&it.two.refusal, it.two.text, "numbers: expected 34, got 33"), "the text of a short array");
+    it.limit = SIZE_MAX;
+    check_told(&it, volgwain_bus_table, "all of the table", all, COUNT(all));
+    it.limit = 1;
+    check_told(&it, volgwain_bus_table, "one tuple and one place", one, COUNT(one));
+    it.limit = 0;
+    check_told(&it, volgwain_bus_table, "no tuples", none, COUNT(none));
+    it.two.provides[0].kind = 0;
+    check_told(&it, volgwain_bus_table, "a local lookup comes first", groups, COUNT(groups));
+    make_found(&it, 9);
+    it.two.keys[1] = 3;
+    check_told(&it, volgwain_bus_table, "a bus that balances", balanced, COUNT(balanced));
+}
+
+static void check_mismatches(void)
+{
+    static const size_t all[] = {
+        1, 1, 4, 'k', 'e', 'y', 's', 1, 3, MINUS_ONE, 2, 2, 0, 0, 0, 1, 1, 0, 0, MINUS_TWO};
+    static const size_t one[] = {1, 1, 4, 'k', 'e', 'y', 's', 1, 3, MINUS_ONE, 2, 1, 0, 0, 0, 1};
+    static const size_t none[] = {1, 1, 4, 'k', 'e', 'y', 's', 1, 3, MINUS_ONE, 2, 0};
+    static const size_t balanced[] = {0};
+    static const size_t local[] = {1, 0, 1, 0, 1, 3, MINUS_TWO, 1, 1, 1, 0, 0, MINUS_TWO};
+    static const size_t by_text[] = {1, 1, 4, 'k', 'e', 'y', 's', 1, 10, 1, 1, 1, 0, 0, 1, 1};
+    struct found it;
+    make_found(&it, 2);
+    check_told(&it, volgwain_mismatch, "a mismatch", all, COUNT(all));
+    it.limit = SIZE_MAX;
+    check_told(&it, volgwain_mismatch, "all of the mismatch", all, COUNT(all));
+    it.limit = 1;
+    check_told(&it, volgwain_mismatch, "one place", one, COUNT(one));
+    it.limit = 0;
+    check_told(&it, volgwain_mismatch, "no place", none, COUNT(none));
+    it.two.provides[0].kind = 0;
+    it.limit = 9;
+    check_told(&it, volgwain_mismatch, "a local mismatch comes first", local, COUNT(local));
+    /* 10 comes before 3 and 9 by its text */
+    make_found(&it, 9);
+    it.two.keys[0] = 9;
+    it.two.keys[1] = 10;
+    check_told(&it, volgwain_mismatch, "a mismatch by its text", by_text, COUNT(by_text));
+    make_found(&it, 9);
+    it.two.keys[1] = 3;
+    check_told(&it, volgwain_mismatch, "no mismatch", balanced, COUNT(balanced));
+}
+
+static void check_untold(struct found *it, const char *what, uint32_t code, uint32_t part, size_t air,
+    size_t row, size_t expected, size_t actual)
+{
+    static telling *const calls[2] = {volgwain_bus_table, volgwain_mismatch};
+    const struct volgwain_refusal *r = &it->two.refusal;
+    int i;
+    for (i = 0; i < 2; i++) {
+        uint32_t answer = tell(it, calls[i]);
+        check(answer == code && r->code == code && r->part == part && r->air == air && r->row == row
+                && r->lookup == 0 && r->expected == expected && r->actual == actual && r->text_length > 0,
+            what);
+        check(it->written == 9 && are_numbers_kept(it, 0), what);
+    }
+}
+
+/* Each of these has what the one before it is refused for as well, which is tested later. */
+static void check_refused_findings(void)
+{
+    struct found it;
+    make_found(&it, 2);
+    it.numbers_length = 0;
+    check(tell(&it, volgwain_bus_table) == VOLGWAIN_BAD_LENGTH && it.two.refusal.expected == 34, "no room");
+    it.two.traces[1].preprocessed_length = 1;
+    it.two.traces[1].preprocessed_width = 1;
+    check_untold(&it, "one row beside two", VOLGWAIN_OTHER_HEIGHT, VOLGWAIN_PART_PREPROCESSED, 1, 0, 0, 0);
+    it.two.traces[0].main_length = it.two.traces[0].main_width = 0;
+    check_untold(&it, "no column", VOLGWAIN_DOES_NOT_FIT, 0, 0, 0, 0, 0);
+    it.two.entries[2] = VOLGWAIN_MODULUS;
+    check_untold(&it, "a cell", VOLGWAIN_BAD_NUMBER, VOLGWAIN_PART_MAIN, 1, 2, 0, 0);
+    it.two.traces[1].main_length = 3;
+    check_untold(&it, "ragged", VOLGWAIN_NO_WHOLE_ROWS, VOLGWAIN_PART_MAIN, 1, 0, 0, 0);
+    it.two.provides[0].multiplicities.end = it.two.provides[0].multiplicities.start;
+    check_untold(&it, "no multiplicity", VOLGWAIN_MALFORMED_LOOKUP, 0, 1, 0, 0, 0);
+    it.two.asks[0].kind = 2;
+    check_untold(&it, "no kind of bus", VOLGWAIN_BAD_TABLE, 4, 0, 0, 0, 0);
+    it.two.traces_length = 1;
+    check_untold(&it, "one trace", VOLGWAIN_BAD_LENGTH, VOLGWAIN_PART_BATCH, 0, 0, 2, 1);
+}
+
 /* ---- ranges of rows: three lookups that see the next row, all selectors, and both traces ----
 
    On a bus, column 0 and the preprocessed trace on the next row, counted by column 1; locally, column 0 once and
@@ -1396,6 +1854,8 @@ static void make_cut(struct cut *it, size_t height)
     it->air.tables.records = it->records;
     it->air.tables.records_length = 3;
     it->air.height = height;
+    it->air.ids = NULL;
+    it->air.ids_length = 0;
     for (row = 0; row < MOST_HEIGHT; row++) {
         it->main[3 * row] = (uint32_t)(3 + row * row);
         it->main[3 * row + 1] = (uint32_t)(row + 1);
@@ -2047,11 +2507,11 @@ static void check_koala_tables(void)
     size_t degree = 9;
     make_range(&one);
     one.nodes[2].number = VOLGWAIN_MODULUS;
-    check(volgwain_koala_bear_degrees(&one.tables, &degree, 1, &one.refusal, one.text, sizeof one.text)
+    check(volgwain_koala_bear_degrees(&one.tables, 0, &degree, 1, &one.refusal, one.text, sizeof one.text)
                   == VOLGWAIN_OK
               && degree == 3,
         "the degree of two tuples over KoalaBear");
-    check(volgwain_degrees(&one.tables, &degree, 1, &one.refusal, one.text, sizeof one.text)
+    check(volgwain_degrees(&one.tables, 0, &degree, 1, &one.refusal, one.text, sizeof one.text)
               == VOLGWAIN_BAD_TABLE,
         "a constant that is none over BabyBear");
     make_pack(&it);
@@ -2074,6 +2534,70 @@ static void check_koala_tables(void)
               == VOLGWAIN_BAD_TEXT,
         "JSON with the modulus of KoalaBear");
     check(read_json(&it, json, strlen(json)) == VOLGWAIN_BAD_TEXT, "JSON with the modulus of BabyBear");
+}
+
+static void check_koala_checks(void)
+{
+    static const uint32_t cells[4] = {0, KOALA_MINUS_HALF, KOALA_MINUS_HALF, KOALA_HALF};
+    static const size_t table[] = {1, 1, 4, 'k', 'e', 'y', 's', 2, 1, 2, 2, 1,
+        1, 3, VOLGWAIN_KOALA_BEAR_MODULUS - 1, 2, 1, 0, 0, 0, 1};
+    static const size_t mismatch[] = {1, 1, 4, 'k', 'e', 'y', 's', 1, 3, VOLGWAIN_KOALA_BEAR_MODULUS - 1, 2, 2,
+        0, 0, 0, 1, 1, 0, 0, VOLGWAIN_KOALA_BEAR_MODULUS - 2};
+    /* what is half of this modulus is past half of that of BabyBear, and sent */
+    static const size_t halves[] = {1, 1, 4, 'k', 'e', 'y', 's', 3, 1, 2, 2, 0};
+    struct verdict it;
+    struct found two;
+    struct volgwain_fit fit;
+    struct range *one = &it.one;
+    size_t degree = 9;
+    int i;
+    make_verdict(&it);
+    for (i = 0; i < 4; i++)
+        it.cells[i].c[0] = cells[i];
+    check(volgwain_koala_bear_verify_air(&one->tables, &one->traces, one->challenges, 2, &it.witness,
+              &one->refusal, one->text, sizeof one->text)
+              == VOLGWAIN_OK,
+        "an AIR is verified under its challenges over KoalaBear");
+    check_verdict(&it, "which it is not over BabyBear", VOLGWAIN_CONSTRAINT_FAILED, 0, 0, 0, 0);
+    it.cells[3].c[0] = KOALA_MINUS_HALF;
+    check(volgwain_koala_bear_verify_air(&one->tables, &one->traces, one->challenges, 2, &it.witness,
+              &one->refusal, one->text, sizeof one->text)
+                  == VOLGWAIN_CONSTRAINT_FAILED
+              && one->refusal.row == 1,
+        "a fraction of an AIR over KoalaBear");
+
+    one->main[1] = one->nodes[2].number = VOLGWAIN_MODULUS;
+    one->nodes[3].index = 3;
+    memset(&fit, 9, sizeof fit);
+    check(volgwain_koala_bear_fit_fault(
+              &one->tables, &one->traces, &fit, &one->refusal, one->text, sizeof one->text)
+                  == VOLGWAIN_OK
+              && fit.reason == VOLGWAIN_FIT_MISSING && fit.part == VOLGWAIN_PART_MAIN && fit.column == 3
+              && fit.width == 3,
+        "a column past the trace over KoalaBear");
+    memset(&fit, 9, sizeof fit);
+    one->main[1] = VOLGWAIN_KOALA_BEAR_MODULUS;
+    check(volgwain_koala_bear_fit_fault(
+              &one->tables, &one->traces, &fit, &one->refusal, one->text, sizeof one->text)
+                  == VOLGWAIN_BAD_NUMBER
+              && fit.reason == 0x09090909,
+        "no fit of the modulus of KoalaBear");
+    one->nodes[0].kind = VOLGWAIN_TRANSITION;
+    check(volgwain_koala_bear_degrees(
+              &one->tables, 5, &degree, 1, &one->refusal, one->text, sizeof one->text)
+                  == VOLGWAIN_OK
+              && degree == 7,
+        "a transition of degree 5 over KoalaBear");
+
+    make_found(&two, 1);
+    two.two.entries[2] = VOLGWAIN_MODULUS;
+    check_told(&two, volgwain_koala_bear_bus_table, "the table of a bus over KoalaBear", table, COUNT(table));
+    two.limit = 2;
+    check_told(&two, volgwain_koala_bear_mismatch, "a mismatch over KoalaBear", mismatch, COUNT(mismatch));
+    two.limit = 0;
+    two.two.entries[2] = 5;
+    two.two.entries[3] = VOLGWAIN_KOALA_BEAR_MODULUS - KOALA_MINUS_HALF;
+    check_told(&two, volgwain_koala_bear_bus_table, "half of the modulus", halves, COUNT(halves));
 }
 
 /* ---- memory that runs out ---- */
@@ -2122,7 +2646,7 @@ static uint32_t try_degrees(void)
     size_t degree = 9;
     uint32_t code;
     make_range(&it);
-    code = volgwain_degrees(&it.tables, &degree, 1, &it.refusal, it.text, sizeof it.text);
+    code = volgwain_degrees(&it.tables, 0, &degree, 1, &it.refusal, it.text, sizeof it.text);
     check(degree == (code == VOLGWAIN_OK ? 3 : 9), "degrees without memory");
     return code;
 }
@@ -2247,6 +2771,46 @@ static uint32_t try_mismatch(void)
     it.main[2] = 2;
     code = debug_check(&it, 1);
     return code == VOLGWAIN_MISMATCH ? VOLGWAIN_OK : code;
+}
+
+static uint32_t try_verify_air(void)
+{
+    struct verdict it;
+    make_verdict(&it);
+    return verify_air(&it);
+}
+
+static uint32_t try_fit_fault(void)
+{
+    struct range it;
+    struct volgwain_fit fit;
+    uint32_t code;
+    make_range(&it);
+    memset(&fit, 9, sizeof fit);
+    code = fit_fault(&it, &fit);
+    check(fit.reason == (code == VOLGWAIN_OK ? VOLGWAIN_FIT_OK : 0x09090909u), "a fit without memory");
+    return code;
+}
+
+static uint32_t try_to_tell(telling *call, size_t count)
+{
+    struct found it;
+    uint32_t code;
+    make_found(&it, 2);
+    code = tell(&it, call);
+    check(code == VOLGWAIN_OK ? it.written == count : it.written == 9 && are_numbers_kept(&it, 0),
+        "findings without memory");
+    return code;
+}
+
+static uint32_t try_bus_table(void)
+{
+    return try_to_tell(volgwain_bus_table, 34);
+}
+
+static uint32_t try_mismatch_numbers(void)
+{
+    return try_to_tell(volgwain_mismatch, 20);
 }
 
 /* Refuses each request of a call in turn, alone and with all later ones. */
@@ -2389,11 +2953,16 @@ static void *run_calls(void *unused)
         struct bus two;
         struct pack three;
         struct cut four;
+        struct found five;
         make_range(&one);
         make_bus(&two);
         make_pack(&three);
         make_middle(&four);
+        make_found(&five, 2);
         if (generate(&one) != VOLGWAIN_OK || !is_generated(&one))
+            wrong++;
+        if (tell(&five, volgwain_bus_table) != VOLGWAIN_OK || five.written != 34
+            || tell(&five, volgwain_mismatch) != VOLGWAIN_OK || five.written != 20)
             wrong++;
         if (prove(&two) != VOLGWAIN_OK || !is_proved(&two) || verify(&two) != VOLGWAIN_OK)
             wrong++;
@@ -2525,7 +3094,10 @@ static uint32_t go_deep(struct volgwain_refusal *refusal)
     struct volgwain_counts counts;
     struct volgwain_height_counts height_counts;
     struct volgwain_grid grid;
-    size_t id[1] = {0}, degree[1] = {0};
+    /* under the one id the prefix is 5 + 1 * 2^1 */
+    struct volgwain_element own[2] = {{{7, 0, 0, 0}}, {{2, 0, 0, 0}}};
+    struct volgwain_fit fit = {0, 0, 0, 0, 0, 0, 0, 0};
+    size_t id[1] = {0}, degree[1] = {0}, numbers[20] = {0}, written = 0;
     char text[1] = "";
     uint32_t code;
     memset(&counts, 0, sizeof counts);
@@ -2548,10 +3120,12 @@ static uint32_t go_deep(struct volgwain_refusal *refusal)
     air.tables.records = records;
     air.tables.records_length = 1;
     air.height = 1;
+    air.ids = NULL;
+    air.ids_length = 0;
     code = volgwain_generate(&air.tables, &traces, challenges, 2, auxiliary, 2, &terminal, refusal, text, 0);
     if (code != VOLGWAIN_OK)
         return code;
-    code = volgwain_degrees(&air.tables, degree, 1, refusal, text, 0);
+    code = volgwain_degrees(&air.tables, 1, degree, 1, refusal, text, 0);
     if (code != VOLGWAIN_OK)
         return code;
     code = volgwain_plan(&air, 1, id, 1, &sizes, refusal, text, 0);
@@ -2587,6 +3161,16 @@ static uint32_t go_deep(struct volgwain_refusal *refusal)
     code = volgwain_debug_check(&air.tables, 1, &traces, 1, refusal, text, 0);
     if (code != VOLGWAIN_MISMATCH)
         return code;
+    code = volgwain_fit_fault(&air.tables, &traces, &fit, refusal, text, 0);
+    if (code != VOLGWAIN_OK)
+        return code;
+    /* a group of three numbers and five, with a tuple of five and a place of four; and the number of groups */
+    code = volgwain_bus_table(&air.tables, 1, &traces, 1, 9, numbers, 20, &written, refusal, text, 0);
+    if (code != VOLGWAIN_OK || written != 18)
+        return code;
+    code = volgwain_mismatch(&air.tables, 1, &traces, 1, 9, numbers, 20, &written, refusal, text, 0);
+    if (code != VOLGWAIN_OK || written != 13)
+        return code;
     code = volgwain_prove(&air, 1, &traces, 1, &challenges[0], &challenges[1], auxiliary, 2, &terminal, 1,
         refusal, text, 0);
     if (code != VOLGWAIN_OK)
@@ -2597,6 +3181,9 @@ static uint32_t go_deep(struct volgwain_refusal *refusal)
     witness.terminal = terminal;
     code = volgwain_verify_rows(&air.tables, &traces, &rows, id, 1, &sizes, &challenges[0], &challenges[1],
         &witness, refusal, text, 0);
+    if (code != VOLGWAIN_OK)
+        return code;
+    code = volgwain_verify_air(&air.tables, &traces, own, 2, &witness, refusal, text, 0);
     if (code != VOLGWAIN_OK)
         return code;
     return volgwain_verify(&air, 1, &traces, 1, &challenges[0], &challenges[1], &witness, 1, refusal, text, 0);
@@ -2687,6 +3274,9 @@ int main(void)
     check_null_airs();
     check_null_batches();
     check_generation();
+    check_air_verification();
+    check_refused_air();
+    check_fits();
     check_proving();
     check_air_by_air();
     check_generation_by_ids();
@@ -2694,6 +3284,7 @@ int main(void)
     check_verification();
     check_degrees();
     check_planning();
+    check_given_ids();
     check_counting();
     check_message_counts();
     check_height_counts();
@@ -2701,6 +3292,9 @@ int main(void)
     check_packing();
     check_json();
     check_debugging();
+    check_tables();
+    check_mismatches();
+    check_refused_findings();
     check_cuts();
     check_faults_of_rows();
     check_refused_rows();
@@ -2710,6 +3304,7 @@ int main(void)
     check_koala_plans();
     check_koala_airs();
     check_koala_tables();
+    check_koala_checks();
     check_chunks();
     check(live == 0, "nothing is leaked");
     make_middle(&accepted);
@@ -2728,6 +3323,10 @@ int main(void)
     check_memory("read_json", try_read_json);
     check_memory("debug_check", try_debug_check);
     check_memory("debug_check of a mismatch", try_mismatch);
+    check_memory("verify_air", try_verify_air);
+    check_memory("fit_fault", try_fit_fault);
+    check_memory("bus_table", try_bus_table);
+    check_memory("mismatch", try_mismatch_numbers);
     check_threads();
     check_memory_of_one_thread();
     check_stack(256, run_deep);

@@ -18,9 +18,10 @@
    - Order. Each call lists its codes from the first test to the last; code 1 may come at any point. That a
      refusal is true of the arguments, and names the first record, number, AIR or row of its kind, is
      proved. The order of the codes is only tested, but for those that one call of the library tests for.
-   - Texts. `text` gets what a refusal says, in UTF-8 and without a closing zero: its first bytes, as many
-     as there is room for, so the cut may split a character. `refusal->text_length` is the length of the
-     whole in bytes, and 0 where nothing was refused.
+   - Texts. `text` gets what a refusal says, in UTF-8: its first bytes, as many as there is room for, so the
+     cut may split a character, and after them a zero if there is room for one. `refusal->text_length` is the
+     length of the whole in bytes, without the zero, and 0 where nothing was refused; then `text` stays as it
+     was. So print the lesser of text_length and the room, and no more.
    - Stack. A call needs at most 256 KB of it, and one that reads JSON 384 KB.
    - Threads. Calls may run at once, as long as what one of them writes no other reads or writes.
      malloc and its kin have to allow that. No call from a signal handler. */
@@ -39,10 +40,10 @@ extern "C" {
 /* The number of the interface that this header declares. It changes with each struct, call or number here
    that changes. A library has it in the name of a call, which every program that includes this header asks
    its linker for: so an archive of another interface does not link. */
-#define VOLGWAIN_ABI 1
+#define VOLGWAIN_ABI 2
 
-/* Returns 1. */
-uint32_t volgwain_abi_1(void);
+/* Returns 2. */
+uint32_t volgwain_abi_2(void);
 
 #ifdef __GNUC__
 #ifdef __has_attribute
@@ -50,7 +51,7 @@ uint32_t volgwain_abi_1(void);
 __attribute__((retain)) /* also where sections that nothing reads are removed */
 #endif
 #endif
-__attribute__((used)) static uint32_t (*const volgwain_abi)(void) = volgwain_abi_1;
+__attribute__((used)) static uint32_t (*const volgwain_abi)(void) = volgwain_abi_2;
 #endif
 
 /* Stands before each call whose answer has to be looked at. */
@@ -152,6 +153,14 @@ struct volgwain_terminal {
     struct volgwain_element value;
 };
 
+/* What a witness has for one AIR. */
+struct volgwain_air_witness {
+    const struct volgwain_element *auxiliary; /* the cells of the auxiliary trace, row after row */
+    size_t auxiliary_length;
+    size_t width;
+    struct volgwain_terminal terminal;
+};
+
 /* ---- refusals ---- */
 
 enum {
@@ -173,7 +182,7 @@ enum {
     VOLGWAIN_NO_WHOLE_ROWS = 5, /* part, air: the width of a trace does not divide its length, or is 0
                                    where there are cells */
     VOLGWAIN_DOES_NOT_FIT = 6,  /* air: a lookup has lists of different lengths, or reads past the traces, or a
-                                   row that is neither this one nor the next one */
+                                   row that is neither this one nor the next one; volgwain_fit_fault says more */
     VOLGWAIN_OTHER_HEIGHT = 7,  /* part, air: the preprocessed trace is not as high as the main one */
     VOLGWAIN_VANISHING_DENOMINATOR = 8, /* air, row, lookup */
     VOLGWAIN_FLAG_NOT_BOOLEAN = 9,      /* air, row, lookup */
@@ -194,10 +203,13 @@ enum {
     VOLGWAIN_COUNT_OVERFLOW = 23,       /* a count does not fit 128 bits */
     VOLGWAIN_WEIGHT_OVERFLOW = 24,      /* air: weights that are added do not fit 64 bits */
     VOLGWAIN_DEGREE_OVERFLOW = 25,      /* air: a degree does not fit 64 bits */
-    VOLGWAIN_MISMATCH = 26,             /* a tuple does not balance; the text says which, and where */
-    VOLGWAIN_BAD_TEXT = 27              /* a text is not JSON, or not that of lookups; the text of the refusal
+    VOLGWAIN_MISMATCH = 26,             /* a tuple does not balance; the text says which, and where, and
+                                           volgwain_mismatch says it in numbers */
+    VOLGWAIN_BAD_TEXT = 27,             /* a text is not JSON, or not that of lookups; the text of the refusal
                                            says why, and where */
-    /* 28 stands for refusals of the library that no call here can meet; that none does is only tested */
+    VOLGWAIN_UNLAWFUL_IDS = 28          /* the AIRs have ids, but not one for each lookup, or they are not
+                                           shared exactly by the lookups on one bus */
+    /* 29 stands for refusals of the library that no call here can meet; that none does is only tested */
 };
 
 /* Parts of a call, in refusal.part for the codes 3, 4, 5 and 7. */
@@ -219,7 +231,8 @@ enum {
     VOLGWAIN_PART_NAMES = 15,
     VOLGWAIN_PART_RECORDS = 16,
     VOLGWAIN_PART_ROWS = 17,  /* a range of rows, or the rows around it */
-    VOLGWAIN_PART_OFFSET = 18 /* what rows are shifted by */
+    VOLGWAIN_PART_OFFSET = 18, /* what rows are shifted by */
+    VOLGWAIN_PART_NUMBERS = 19 /* what volgwain_bus_table and volgwain_mismatch write */
 };
 
 /* What was refused, and where: each code names the fields that it fills, and the others are 0. */
@@ -256,12 +269,68 @@ VOLGWAIN_MUST_CHECK uint32_t volgwain_generate(const struct volgwain_tables *tab
     struct volgwain_terminal *terminal,
     struct volgwain_refusal *refusal, char *text, size_t text_size);
 
-/* Gives the degree of the constraint of each lookup of an AIR, if the transition selector has degree 0.
+/* Whether the auxiliary trace and the terminal of one AIR, whoever made them, satisfy every constraint of its
+   lookups on every row, under challenges that the caller chose.
 
+   challenges: an alpha and a beta for each lookup, as for volgwain_generate.
+   witness: what a witness has for this AIR.
+
+   So the part of a witness can be checked that was made under challenges of its prover's own, whatever ids the
+   prover has; volgwain_verify takes them from one alpha and one beta, by ids of its own. The caller sees to it
+   that lookups on one bus share an alpha and a beta and others do not, and that the terminals of a batch sum to
+   zero; volgwain_shift adds them up.
+
+   Returns 0 exactly if they do, unless memory runs out. Refuses, in this order: what volgwain_generate does up to
+   3 of the challenges; 5 and 3 of what the witness has; 6, 7 and 4 of the challenges; 17, 18 and 19; and 20, at the
+   first row on which a constraint is not zero. Or 1. */
+VOLGWAIN_MUST_CHECK uint32_t volgwain_verify_air(const struct volgwain_tables *tables,
+    const struct volgwain_traces *traces,
+    const struct volgwain_element *challenges, size_t challenges_length,
+    const struct volgwain_air_witness *witness,
+    struct volgwain_refusal *refusal, char *text, size_t text_size);
+
+/* Reasons why lookups do not fit traces, in fit.reason. */
+enum {
+    VOLGWAIN_FIT_OK = 0,        /* they fit */
+    VOLGWAIN_FIT_MALFORMED = 1, /* lookup: the first one with lists of different lengths */
+    VOLGWAIN_FIT_MISSING = 2,   /* lookup, part, row, column, width: the first lookup that reads a cell which the
+                                   traces do not have, and the first such cell: of its tuples, then of its
+                                   multiplicities, and then of its flags, each from left to right */
+    VOLGWAIN_FIT_HEIGHTS = 3    /* height, preprocessed_height: the preprocessed trace is not as high as the main
+                                   one */
+};
+
+/* Why lookups do not fit traces. Each reason names the fields that it fills, and the others are 0. */
+struct volgwain_fit {
+    uint32_t reason;
+    uint32_t part; /* where the cell is read: VOLGWAIN_PART_MAIN, _PREPROCESSED or _PUBLIC_VALUES */
+    size_t lookup;
+    size_t row;    /* 0 this row, 1 the next one; any other is a row that no lookup may read. Of a public value 0 */
+    size_t column; /* the column of the cell, or the index of the public value */
+    size_t width;  /* how many columns, or public values, there are */
+    size_t height;
+    size_t preprocessed_height;
+};
+
+/* Says why the lookups of an AIR do not fit its traces: the first of the reasons above, or that they fit. What is
+   reason 1 or 2 here other calls on one AIR refuse by 6, and what is reason 3 by 7.
+
+   fit: all of it is written.
+
+   Refuses, in this order: 2, and 5 and 3 of a trace. Or 1. */
+VOLGWAIN_MUST_CHECK uint32_t volgwain_fit_fault(const struct volgwain_tables *tables,
+    const struct volgwain_traces *traces,
+    struct volgwain_fit *fit,
+    struct volgwain_refusal *refusal, char *text, size_t text_size);
+
+/* Gives the degree of the constraint of each lookup of an AIR.
+
+   transition_degree: the degree of the transition selector. The other two selectors have degree 1, as cells have.
+   volgwain_pack takes it as 0.
    degrees: one for each lookup.
 
    Refuses, in this order: 2, 11, 25 and 4 of the degrees. Or 1. */
-VOLGWAIN_MUST_CHECK uint32_t volgwain_degrees(const struct volgwain_tables *tables,
+VOLGWAIN_MUST_CHECK uint32_t volgwain_degrees(const struct volgwain_tables *tables, size_t transition_degree,
     size_t *degrees, size_t degrees_length,
     struct volgwain_refusal *refusal, char *text, size_t text_size);
 
@@ -320,18 +389,17 @@ VOLGWAIN_MUST_CHECK uint32_t volgwain_read_json(const char *json, size_t json_le
 
 /* ---- a batch of AIRs ---- */
 
-/* An AIR of a batch, before its traces are seen. */
+/* An AIR of a batch, before its traces are seen: its lookups, the height of its traces, and an id for each
+   lookup, or none.
+
+   Where no AIR of a batch has ids, the plan gives them. Where one has, those of all AIRs are taken, so that a
+   witness can be made and verified under the ids of another prover. Then each lookup needs one, lookups on one
+   bus share an id, also across AIRs, and no others do; there are as many ids as the greatest of them and one. */
 struct volgwain_air {
     struct volgwain_tables tables;
     size_t height;
-};
-
-/* What a witness has for one AIR. */
-struct volgwain_air_witness {
-    const struct volgwain_element *auxiliary; /* the cells of the auxiliary trace, row after row */
-    size_t auxiliary_length;
-    size_t width;
-    struct volgwain_terminal terminal;
+    const size_t *ids;
+    size_t ids_length;
 };
 
 /* The sizes of a plan: the greatest width of all tuples, at least 1, and the number of ids. */
@@ -342,12 +410,12 @@ struct volgwain_plan_sizes {
 
 /* Gives the plan of a batch, as it is known before traces are seen. Lookups on one bus share an id, also
    across AIRs, and each local lookup has its own; ids are given from 0 on, in the order of the AIRs and
-   their lookups. With alpha and beta a lookup of id i has the challenges
+   their lookups, unless the AIRs have ids. With alpha and beta a lookup of id i has the challenges
    alpha + (i + 1) * beta^max_message_width and beta.
 
    ids: one for each lookup, AIR by AIR.
 
-   Refuses, in this order: 2 and 11 of an AIR, 12, 13, 14, 15, and 4 of the ids. Or 1. */
+   Refuses, in this order: 2 and 11 of an AIR, 12, 13, 28, 14, 15, and 4 of the ids. Or 1. */
 VOLGWAIN_MUST_CHECK uint32_t volgwain_plan(const struct volgwain_air *airs, size_t airs_length,
     size_t *ids, size_t ids_length,
     struct volgwain_plan_sizes *sizes,
@@ -385,7 +453,7 @@ VOLGWAIN_MUST_CHECK uint32_t volgwain_generate_by_ids(const struct volgwain_tabl
    The witness satisfies the constraints of all lookups, and where all flags are lawful and no denominator
    vanishes no other does. If all messages balance, the terminals sum to zero, so it is accepted.
 
-   Refuses, in this order: 2 and 11 of an AIR, 12, 13, 14, 15, 5 and 3 of traces, 3 of alpha and then beta,
+   Refuses, in this order: 2 and 11 of an AIR, 12, 13, 28, 14, 15, 5 and 3 of traces, 3 of alpha and then beta,
    4 of the number of traces, 16, the first of 8, 9 and 10 in the order AIR, row, lookup, and 4 of the
    auxiliary traces and then the terminals. Or 1. */
 VOLGWAIN_MUST_CHECK uint32_t volgwain_prove(const struct volgwain_air *airs, size_t airs_length,
@@ -455,7 +523,7 @@ struct volgwain_height_counts {
    with lawful flags and some message that does not balance: at all betas but bad_betas at the most, some
    witness is accepted at no more than accepting_alphas alphas, whoever makes it.
 
-   Refuses, in this order: 2 and 11 of an AIR, 12, 13, 14, 15 and 23. Or 1. */
+   Refuses, in this order: 2 and 11 of an AIR, 12, 13, 28, 14, 15 and 23. Or 1. */
 VOLGWAIN_MUST_CHECK uint32_t volgwain_soundness_of_heights(const struct volgwain_air *airs, size_t airs_length,
     struct volgwain_height_counts *counts,
     struct volgwain_refusal *refusal, char *text, size_t text_size);
@@ -489,6 +557,64 @@ VOLGWAIN_MUST_CHECK uint32_t volgwain_grid_count(const struct volgwain_air *airs
    tuple, by how much it does not, and each place where it is sent. Or 1. */
 VOLGWAIN_MUST_CHECK uint32_t volgwain_debug_check(const struct volgwain_tables *airs, size_t airs_length,
     const struct volgwain_traces *traces, size_t traces_length,
+    struct volgwain_refusal *refusal, char *text, size_t text_size);
+
+/* What the two calls below write is a list of numbers, to be read from the first on:
+
+       table     number of groups, then each group
+       group     name, sent, received, distinct, unbalanced, number of tuples that follow, then each tuple
+       mismatch  0; or 1, name, tuple
+       name      0, air, lookup; or 1, number of bytes, then each byte as a number
+       tuple     number of elements, then each element, net, place_count, number of places that follow, then each
+                 place
+       place     air, lookup, row, count
+
+   - A group is what balances by itself: a local lookup, whose name begins with 0; or a bus with all lookups on it,
+     over all AIRs, whose name begins with 1 and is in UTF-8. The local lookups come first, in the order AIR,
+     lookup, and then the buses, in the order of the first lookups on them. A group is there also if it sends
+     nothing.
+   - A contribution is a tuple that a lookup sends on a row, with its count: the multiplicity, or flag times
+     multiplicity, whatever the flag is. Contributions with count 0 are left out everywhere here.
+   - sent and received: how many contributions have a count that is at most half of the modulus, and how many a
+     greater one, as that of -1 is.
+   - distinct: how many distinct tuples they have. unbalanced: how many of these have a net other than 0.
+   - The tuples that follow are the first of those that are unbalanced, in the order of their first contributions,
+     as many as limit allows.
+   - net: the sum of the counts of a tuple, modulo the modulus. place_count: how many contributions it has.
+   - The places that follow are the first of these, in the order AIR, lookup, row, tuple, as many as limit allows.
+
+   Elements, net and count are numbers below the modulus. Where sent, received or place_count does not fit a
+   size_t, it is SIZE_MAX. */
+
+/* Tells of each local lookup and each bus what is sent and received, and which tuples do not balance.
+
+   limit: how many of the tuples of a group, and of the places of a tuple, follow at most.
+   numbers: a table, as above, from the start of the array on. The array must be at least as long, and what is past
+   the table stays as it was.
+   written: how many numbers the table has.
+
+   How many there are is not known before. A call with too short an array is refused by 4 of the numbers, with
+   the length that is needed as what was expected.
+
+   Refuses, in this order: what volgwain_debug_check does up to 6 and 7 of an AIR, and 4 of the numbers. Or 1. */
+VOLGWAIN_MUST_CHECK uint32_t volgwain_bus_table(const struct volgwain_tables *airs, size_t airs_length,
+    const struct volgwain_traces *traces, size_t traces_length,
+    size_t limit,
+    size_t *numbers, size_t numbers_length, size_t *written,
+    struct volgwain_refusal *refusal, char *text, size_t text_size);
+
+/* Tells the mismatch that volgwain_debug_check names, or that all tuples balance. It is of the first group that has
+   one: among its unbalanced tuples the one that comes first by the decimal texts of its elements, so that 10 comes
+   before 9.
+
+   limit: how many of the places of the tuple follow at most.
+   numbers, written: a mismatch, as above; else as for volgwain_bus_table.
+
+   Refuses what volgwain_bus_table does, in the same order. */
+VOLGWAIN_MUST_CHECK uint32_t volgwain_mismatch(const struct volgwain_tables *airs, size_t airs_length,
+    const struct volgwain_traces *traces, size_t traces_length,
+    size_t limit,
+    size_t *numbers, size_t numbers_length, size_t *written,
     struct volgwain_refusal *refusal, char *text, size_t text_size);
 
 /* ---- ranges of rows ---- */
@@ -583,6 +709,18 @@ VOLGWAIN_MUST_CHECK uint32_t volgwain_koala_bear_debug_check(const struct volgwa
     size_t airs_length,
     const struct volgwain_traces *traces, size_t traces_length,
     struct volgwain_refusal *refusal, char *text, size_t text_size);
+VOLGWAIN_MUST_CHECK uint32_t volgwain_koala_bear_bus_table(const struct volgwain_tables *airs,
+    size_t airs_length,
+    const struct volgwain_traces *traces, size_t traces_length,
+    size_t limit,
+    size_t *numbers, size_t numbers_length, size_t *written,
+    struct volgwain_refusal *refusal, char *text, size_t text_size);
+VOLGWAIN_MUST_CHECK uint32_t volgwain_koala_bear_mismatch(const struct volgwain_tables *airs,
+    size_t airs_length,
+    const struct volgwain_traces *traces, size_t traces_length,
+    size_t limit,
+    size_t *numbers, size_t numbers_length, size_t *written,
+    struct volgwain_refusal *refusal, char *text, size_t text_size);
 VOLGWAIN_MUST_CHECK uint32_t volgwain_koala_bear_soundness_count(const struct volgwain_air *airs,
     size_t airs_length,
     const struct volgwain_traces *traces, size_t traces_length,
@@ -630,7 +768,17 @@ VOLGWAIN_MUST_CHECK uint32_t volgwain_koala_bear_verify_rows(const struct volgwa
     const struct volgwain_element *alpha, const struct volgwain_element *beta,
     const struct volgwain_air_witness *witness,
     struct volgwain_refusal *refusal, char *text, size_t text_size);
+VOLGWAIN_MUST_CHECK uint32_t volgwain_koala_bear_verify_air(const struct volgwain_tables *tables,
+    const struct volgwain_traces *traces,
+    const struct volgwain_element *challenges, size_t challenges_length,
+    const struct volgwain_air_witness *witness,
+    struct volgwain_refusal *refusal, char *text, size_t text_size);
+VOLGWAIN_MUST_CHECK uint32_t volgwain_koala_bear_fit_fault(const struct volgwain_tables *tables,
+    const struct volgwain_traces *traces,
+    struct volgwain_fit *fit,
+    struct volgwain_refusal *refusal, char *text, size_t text_size);
 VOLGWAIN_MUST_CHECK uint32_t volgwain_koala_bear_degrees(const struct volgwain_tables *tables,
+    size_t transition_degree,
     size_t *degrees, size_t degrees_length,
     struct volgwain_refusal *refusal, char *text, size_t text_size);
 VOLGWAIN_MUST_CHECK uint32_t volgwain_koala_bear_pack(const struct volgwain_tables *tables, size_t max_degree,

@@ -2,10 +2,11 @@
 //! lookup layer.
 //!
 //! - [`check_lookups`] stands in for the call of `p3_lookup::debug_util` of this name. [`debug_check`]
-//!   answers in place of a panic.
+//!   answers in place of a panic, [`mismatch`] with data, and [`bus_table`] for all buses at once.
 //! - [`from_p3`] makes a [`volgwain::generic::Air`] of the lookups of an AIR, and [`OwnedTraces`] copies
 //!   its traces. With both all calls of `volgwain` can be made: plans, witnesses, counts.
-//! - [`generate_permutation`] stands in for that of `LogUpGadget`, under any challenges.
+//! - [`generate_permutation`] stands in for that of `LogUpGadget`, under any challenges, and
+//!   [`verify_permutation`] checks what a prover made under its own.
 //! - [`challenges`], [`witness_from_p3`] and [`witness_to_p3`] lead from a witness of one crate to one
 //!   of the other.
 //!
@@ -61,9 +62,12 @@ mod lookups;
 mod traces;
 mod witness;
 
-pub use debug::{check_lookups, debug_check};
+pub use debug::{bus_table, check_lookups, debug_check, mismatch};
 pub use error::Error;
 pub use field::{Extension, SharedField, element_from_p3, element_to_p3};
 pub use lookups::from_p3;
 pub use traces::OwnedTraces;
-pub use witness::{AirWitness, challenges, generate_permutation, witness_from_p3, witness_to_p3};
+pub use witness::{
+    AirWitness, challenges, generate_permutation, verify_permutation, witness_from_p3,
+    witness_to_p3,
+};

@@ -6,6 +6,7 @@ use crate::lookups::from_p3;
 use crate::traces::OwnedTraces;
 use p3_lookup::{Challenges, LookupTerminal};
 use p3_matrix::dense::RowMajorMatrix;
+use std::slice;
 use volgwain::generic::{self, Batch, Element, Witness};
 
 /// What a witness has for one AIR, as `LogUpGadget` makes it: the auxiliary trace and the terminal.
@@ -29,13 +30,40 @@ pub fn generate_permutation<F: SharedField>(
     challenges: &[Extension<F>],
 ) -> Result<AirWitness<F>, Error> {
     let owned = OwnedTraces::new(main, preprocessed.as_ref(), public_values);
-    let pairs: Vec<[Element<F::Ours>; 2]> = challenges
-        .chunks_exact(2)
-        .map(|pair| [element_from_p3::<F>(pair[0]), element_from_p3::<F>(pair[1])])
-        .collect();
-    let witness = from_p3(lookups)?.generate(&owned.traces(), &pairs)?;
+    let witness = from_p3(lookups)?.generate(&owned.traces(), &pairs_of::<F>(challenges))?;
     // the witness of one AIR has one part
     Ok(witness_to_p3::<F>(&witness).swap_remove(0))
+}
+
+/// Whether the auxiliary trace and the terminal of one AIR, whoever made them, satisfy every constraint
+/// of its lookups on every row, under an alpha and a beta for each lookup, one after the other.
+///
+/// So a prover's own witness is checked under the prover's own challenges, whatever ids it has. That
+/// lookups on one bus share their challenges and others do not, and that the terminals of all AIRs sum
+/// to zero (`LogUpGadget::verify_terminal_sum`), is for the caller to see to.
+///
+/// Refuses lookups as [`from_p3`] does, traces that they do not fit, and too few challenges. Then the
+/// answer is the first fault of the part: its shape, or the first row on which a constraint fails.
+pub fn verify_permutation<F: SharedField>(
+    main: &RowMajorMatrix<F>,
+    preprocessed: &Option<RowMajorMatrix<F>>,
+    public_values: &[F],
+    lookups: &[p3_lookup::Lookup<F>],
+    challenges: &[Extension<F>],
+    part: &AirWitness<F>,
+) -> Result<(), Error> {
+    let owned = OwnedTraces::new(main, preprocessed.as_ref(), public_values);
+    let air = from_p3(lookups)?;
+    let witness = witness_from_p3::<F>(slice::from_ref(part));
+    let pairs = pairs_of::<F>(challenges);
+    witness.airs().try_for_each(|part| air.verify(&owned.traces(), &pairs, &part))?;
+    Ok(())
+}
+
+/// Challenges in pairs.
+fn pairs_of<F: SharedField>(challenges: &[Extension<F>]) -> Vec<[Element<F::Ours>; 2]> {
+    let pair = |pair: &[Extension<F>]| [pair[0], pair[1]].map(element_from_p3::<F>);
+    challenges.chunks_exact(2).map(pair).collect()
 }
 
 /// For each AIR the challenges that `LogUpGadget` needs to make what [`Batch::prove`] makes: for each
@@ -51,7 +79,7 @@ pub fn challenges<F: SharedField>(
 }
 
 /// A witness that Plonky3 made, as [`Batch::verify`] takes it. It is accepted only if it was made
-/// under the challenges that [`challenges`] says.
+/// under the challenges that [`challenges`] says; [`verify_permutation`] takes any others.
 pub fn witness_from_p3<F: SharedField>(airs: &[AirWitness<F>]) -> Witness<F::Ours> {
     let cells: Vec<Vec<Element<F::Ours>>> = airs
         .iter()

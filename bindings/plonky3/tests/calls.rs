@@ -7,10 +7,11 @@ use p3_lookup::debug_util::LookupDebugInstance;
 use p3_lookup::{Kind, Lookup};
 use p3_matrix::dense::RowMajorMatrix;
 use volgwain::generic::{Batch, Element};
-use volgwain::{Code, Count, Expr, Message};
+use volgwain::{Code, Count, Expr, GroupName, Message};
 use volgwain_plonky3::{
-    AirWitness, Error, OwnedTraces, challenges, check_lookups, debug_check, element_from_p3,
-    element_to_p3, from_p3, generate_permutation, witness_from_p3, witness_to_p3,
+    AirWitness, Error, OwnedTraces, bus_table, challenges, check_lookups, debug_check,
+    element_from_p3, element_to_p3, from_p3, generate_permutation, mismatch, verify_permutation,
+    witness_from_p3, witness_to_p3,
 };
 
 type F = BabyBear;
@@ -104,6 +105,23 @@ fn a_mismatch_says_where() {
 }
 
 #[test]
+fn findings_are_data() {
+    let (main, lookups) = (trace(&[3, 1, 4, 0, 3, 1]), [keys()]);
+    let instances = [instance(&main, &lookups)];
+    let found = mismatch(&instances, 1).unwrap().unwrap();
+    assert_eq!(found.group, GroupName::Bus("keys".to_owned()));
+    assert_eq!((found.unbalanced.tuple, found.unbalanced.net), (vec![3], 2));
+    assert_eq!((found.unbalanced.place_count, found.unbalanced.places.len()), (2, 1));
+    let table = bus_table(&instances, 1).unwrap();
+    let counts = |it: &volgwain::BusGroup| (it.sent, it.received, it.distinct, it.unbalanced);
+    assert_eq!(table.iter().map(counts).collect::<Vec<_>>(), [(2, 0, 1, 1)]);
+    let moved = [Lookup { column: 2, ..keys() }];
+    let refused = bus_table(&[instance(&main, &moved)], 1).unwrap_err();
+    assert_eq!(refused.to_string(), "air 0: lookup 0 has the column 2");
+    assert_eq!(mismatch(&[instance(&main, &moved)], 1), Err(refused));
+}
+
+#[test]
 #[should_panic(
     expected = "Lookup mismatch (global lookup 'keys'): tuple [\"3\"] has net multiplicity 2. \
         Locations: [Location { instance: 0, lookup: 0, row: 0 }, \
@@ -152,4 +170,27 @@ fn a_witness_leads_from_one_to_the_other() {
     let refused = generate_permutation(&main, &None, &[], &lookups, &challenges[0][..1]);
     let Err(Error::Refused(error)) = refused else { panic!("one challenge is missing") };
     assert_eq!(error.code(), Code::BadLength);
+}
+
+#[test]
+fn a_part_is_verified_under_challenges_of_its_own() {
+    let (main, lookups) = (trace(&[3, 1, 4, 2]), [keys()]);
+    let own = [[7, 0, 1, 0], [2, 5, 0, 0]].map(|it| element_to_p3::<F>(Element::new(it)));
+    let verify = |challenges: &[_], part: &AirWitness<F>| {
+        verify_permutation(&main, &None, &[], &lookups, challenges, part).map_err(|error| {
+            let Error::Refused(error) = error else { panic!("{error}") };
+            (error.code(), error.row())
+        })
+    };
+    let mut part = generate_permutation(&main, &None, &[], &lookups, &own).unwrap();
+    assert_eq!(verify(&own, &part), Ok(()));
+    assert_eq!(verify(&[own[1], own[0]], &part), Err((Code::ConstraintFailed, Some(0))));
+    assert_eq!(verify(&own[..1], &part), Err((Code::BadLength, None)));
+    part.0.values[3] += own[0];
+    assert_eq!(verify(&own, &part), Err((Code::ConstraintFailed, Some(1))));
+    part.1 = None;
+    assert_eq!(verify(&own, &part), Err((Code::TerminalPresence, None)));
+    let moved = [Lookup { column: 2, ..keys() }];
+    let refused = verify_permutation(&main, &None, &[], &moved, &own, &part);
+    assert_eq!(refused, Err(Error::Column { lookup: 0, column: 2 }));
 }

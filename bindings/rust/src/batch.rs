@@ -1,10 +1,12 @@
 //! Batches of AIRs.
 
 use crate::air::{self, Air};
+use crate::debug::{BusGroup, Mismatch};
 use crate::element::Element;
 use crate::error::Error;
 use crate::ffi::{self, PlanSizes, Planned, PlannedIds};
 use crate::field::Field;
+use crate::memory::copies;
 use crate::ranges::{SharedWork, TracedAir};
 use crate::traces::Traces;
 use crate::witness::{AuxiliaryShape, Witness};
@@ -16,13 +18,15 @@ use std::iter::{self, zip};
 /// All tuples under one id have one width, and weights times heights stay below the modulus.
 ///
 /// The traces that its calls take are one for each AIR, of its height and with all that its lookups
-/// read; but [`generate`](Batch::generate) and [`debug_check`](Batch::debug_check) do not compare
-/// heights.
+/// read; but [`generate`](Batch::generate), [`debug_check`](Batch::debug_check),
+/// [`bus_table`](Batch::bus_table) and [`mismatch`](Batch::mismatch) do not compare heights.
 #[derive(Clone, Debug)]
 pub struct Batch<F> {
     airs: Vec<Air<F>>,
     heights: Vec<usize>,
     ids: Vec<Vec<usize>>,
+    /// Whether the ids were given, so that each call on the whole batch is.
+    has_given_ids: bool,
     sizes: PlanSizes,
     threads: Option<usize>,
 }
@@ -76,13 +80,69 @@ impl<F: Field> Batch<F> {
     pub fn new<'a>(airs: impl IntoIterator<Item = (&'a Air<F>, usize)>) -> Result<Self, Error> {
         let (airs, heights): (Vec<Air<F>>, Vec<usize>) =
             airs.into_iter().map(|(air, height)| (air.clone(), height)).unzip();
-        let mut ids = vec![0; airs.iter().map(|air| air.len()).sum()];
-        let planned: Vec<Planned<'_, F>> = planned(&airs, &heights);
-        let sizes = ffi::plan(&planned, &mut ids)?;
+        Batch { airs, heights, ..Batch::unplanned() }.plan()
+    }
+
+    /// The batch of these AIRs over ids that are given: each with the height of its traces, and an id
+    /// for each of its lookups. So a witness of another prover is verified under the ids that it was
+    /// made with.
+    ///
+    /// Lookups on one bus share an id, also across AIRs, and no others do. There are as many ids as
+    /// the greatest of them and one. Refuses other ids ([`Code::UnlawfulIds`]), and what
+    /// [`new`](Batch::new) does.
+    ///
+    /// ```
+    /// use volgwain::{Air, Batch, Code, Expr, Lookup, Message};
+    ///
+    /// # fn main() -> Result<(), volgwain::Error> {
+    /// let asks = Air::new([Lookup::on_bus("keys", [Message::query([Expr::main(0)], 1)])])?;
+    /// let entries = Message::provide([Expr::main(0)], Expr::main(1));
+    /// let provides = Air::new([Lookup::on_bus("keys", [entries])])?;
+    /// let batch = Batch::with_ids([(&asks, 3, &[7]), (&provides, 2, &[7])])?;
+    /// assert_eq!(batch.num_ids(), 8);
+    /// let refused = Batch::with_ids([(&asks, 3, &[7]), (&provides, 2, &[6])]).unwrap_err();
+    /// assert_eq!(refused.code(), Code::UnlawfulIds);
+    /// # Ok(())
+    /// # }
+    /// ```
+    ///
+    /// [`Code::UnlawfulIds`]: crate::Code::UnlawfulIds
+    pub fn with_ids<'a, I: AsRef<[usize]> + ?Sized + 'a>(
+        airs: impl IntoIterator<Item = (&'a Air<F>, usize, &'a I)>,
+    ) -> Result<Self, Error> {
+        let mut batch = Batch { has_given_ids: true, ..Batch::unplanned() };
+        for (air, height, ids) in airs {
+            batch.airs.push(air.clone());
+            batch.heights.push(height);
+            batch.ids.push(ids.as_ref().to_vec());
+        }
+        // without any ids the library would give its own
+        if zip(&batch.airs, &batch.ids).any(|(air, ids)| air.len() != ids.len()) {
+            return Err(Error::unlawful_ids());
+        }
+        batch.plan()
+    }
+
+    /// A batch without AIRs, before it is planned.
+    fn unplanned() -> Self {
+        Batch {
+            airs: Vec::new(),
+            heights: Vec::new(),
+            ids: Vec::new(),
+            has_given_ids: false,
+            sizes: PlanSizes::default(),
+            threads: None,
+        }
+    }
+
+    /// The same batch with its ids and sizes.
+    fn plan(mut self) -> Result<Self, Error> {
+        let mut ids = copies(0, self.airs.iter().map(|air| air.len()).sum())?;
+        self.sizes = ffi::plan(&self.planned(), &mut ids)?;
         let mut left = ids.into_iter();
         let of_air = |air: &Air<F>| left.by_ref().take(air.len()).collect();
-        let ids = airs.iter().map(of_air).collect();
-        Ok(Batch { airs, heights, ids, sizes, threads: None })
+        self.ids = self.airs.iter().map(of_air).collect();
+        Ok(self)
     }
 
     /// The same batch, which is proved, generated and verified by so many threads at most; 0 counts
@@ -236,6 +296,17 @@ impl<F: Field> Batch<F> {
         air::debug_check(&self.airs, traces)
     }
 
+    /// What each local lookup and each bus sends and receives, and which tuples do not balance, as
+    /// [`bus_table`](crate::bus_table) says of these AIRs.
+    pub fn bus_table(&self, traces: &[Traces<'_>], limit: usize) -> Result<Vec<BusGroup>, Error> {
+        air::bus_table(&self.airs, traces, limit)
+    }
+
+    /// The first mismatch as data, as [`mismatch`](crate::mismatch) says of these AIRs.
+    pub fn mismatch(&self, traces: &[Traces<'_>], limit: usize) -> Result<Option<Mismatch>, Error> {
+        air::mismatch(&self.airs, traces, limit)
+    }
+
     /// Counts distinct and unbalanced messages, and bounds the challenges at which any witness is
     /// accepted.
     ///
@@ -268,8 +339,13 @@ impl<F: Field> Batch<F> {
         ffi::grid_count(&self.planned(), traces, alphas, betas)
     }
 
+    /// Its AIRs as calls on the whole batch take them.
     fn planned(&self) -> Vec<Planned<'_, F>> {
-        planned(&self.airs, &self.heights)
+        let given: &[Vec<usize>] = if self.has_given_ids { &self.ids } else { &[] };
+        let ids = given.iter().map(Vec::as_slice).chain(iter::repeat(&[][..]));
+        zip(zip(&self.airs, &self.heights), ids)
+            .map(|((air, &height), ids)| Planned { tables: air.tables(), height, ids })
+            .collect()
     }
 
     fn planned_ids(&self) -> impl Iterator<Item = PlannedIds<'_, F>> + Clone {
@@ -312,11 +388,4 @@ impl<F: Field> Batch<F> {
         };
         self.airs.iter().zip(&self.heights).map(shape).collect()
     }
-}
-
-/// The AIRs as a plan takes them.
-fn planned<'a, F: Field>(airs: &'a [Air<F>], heights: &[usize]) -> Vec<Planned<'a, F>> {
-    let planned =
-        |(air, height): (&'a Air<F>, &usize)| Planned { tables: air.tables(), height: *height };
-    airs.iter().zip(heights).map(planned).collect()
 }

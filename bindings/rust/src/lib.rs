@@ -47,28 +47,34 @@
 //! All types are plain data, so they are [`Send`] and [`Sync`], and any number of threads may work
 //! on the same AIRs and batches at once. A large batch is worked on by as many threads as there are
 //! processors, or as [`Batch::with_threads`] says. A call needs at most 256 KB of stack, and one that
-//! reads JSON 384 KB. Where the library can get no memory, a call answers [`Code::OutOfMemory`].
+//! reads JSON 384 KB. Where the library can get no memory, or there is none for what it writes, a call
+//! answers [`Code::OutOfMemory`]; `docs/RUST.md` lists what ends the program then.
 #![deny(missing_docs, unsafe_code, clippy::undocumented_unsafe_blocks)]
 
 mod air;
 mod batch;
+mod debug;
 mod element;
 mod error;
 mod expr;
 mod ffi;
 mod field;
+mod fit;
 mod lookup;
+mod memory;
 mod ranges;
 mod symbolic;
 mod tables;
 mod traces;
 mod witness;
 
-pub use air::debug_check;
+pub use air::{bus_table, debug_check, mismatch};
 pub use batch::{GridCount, HeightSoundness, SoundnessCount};
+pub use debug::{BusGroup, GroupName, Mismatch, Place, UnbalancedTuple};
 pub use error::{Code, Error, Part};
 pub use expr::{MOST_DEPTH, MOST_NODES};
 pub use field::{BabyBear, Field, KoalaBear};
+pub use fit::{Cell, FitFault};
 pub use symbolic::{Shape, Symbolic, Term};
 pub use traces::{Trace, Traces};
 
@@ -145,8 +151,9 @@ pub mod koala_bear {
     use crate::{Field, KoalaBear, generic};
 
     pub use crate::{
-        Code, Error, GridCount, HeightSoundness, MOST_DEPTH, MOST_NODES, Part, Shape,
-        SoundnessCount, Symbolic, Term, Trace, Traces, debug_check,
+        BusGroup, Cell, Code, Error, FitFault, GridCount, GroupName, HeightSoundness, MOST_DEPTH,
+        MOST_NODES, Mismatch, Part, Place, Shape, SoundnessCount, Symbolic, Term, Trace, Traces,
+        UnbalancedTuple, bus_table, debug_check, mismatch,
     };
 
     types_over!(KoalaBear);

@@ -98,8 +98,9 @@ impl<F: Field> BatchPlan<F> {
     }
 
     /// The plan of these AIRs, whose traces have these heights, over these ids: a list for each AIR, with the
-    /// id of each lookup. There are prefixes for `num_ids` ids. So a witness of another prover is verified
-    /// under the ids that it was made with.
+    /// id of each lookup. There are prefixes for `num_ids` ids, and the width of messages is that
+    /// of [`new`](BatchPlan::new). So a witness of another prover is verified under the ids that it was made
+    /// with.
     ///
     /// Refuses the first of these that fails:
     ///

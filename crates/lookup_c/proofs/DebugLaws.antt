@@ -15,7 +15,11 @@ use Rattle.lookup_tables.specs.declared.traces.ReadTraces.{ReadTraces}
 use Rattle.lookup_tables.specs.declared.traces.Traces.{Traces}
 use Rattle.lookup_c.specs.BatchTables.{AreTracesOfTables}
 use Rattle.lookup_c.specs.DebugCheck.{AreDebugSets, DebugChecksTables, DebugChecksTraced, IsDebugCheckRefusal, IsDebugMisfit, IsDebugMismatch, IsFirstDebugMisfit, all_debug_traced, debug_traced}
+use Rattle.lookup_c.specs.DebugNumbers.{TellsNumbers, TellsTables}
+use Rattle.lookup_c.specs.declared.codes.Part.TheVariants.{Numbers}
+use Rattle.lookup_c.specs.declared.debug_numbers.Asked.{Asked}
 use Rattle.lookup_c.specs.declared.fault.Fault.{Fault}
+use Rattle.lookup_c.specs.declared.fault.Fault.TheVariants.{Length}
 use Rattle.expressions.proofs.FirstFaults.{first_fault}
 
 pub all_taken : {F : Type 0} (sets : List (Lookups F)) (traces : List (ReadTraces F)) (n : ℕ) → length sets ≡ length traces → length sets ≤ n → length (all_debug_traced sets traces) ≤ n
@@ -46,3 +50,20 @@ checks_tables {p} positive E airs traces sets all ts answer sets_are all_are as_
     MatchResult-weaker answer whole
     (λ _ balance. record { sets = sets; sets_are = sets_are; all = all; all_are = all_are; as_many = as_many; balance = balance })
     (λ fault refusal. inr (inr (inr (inr (record { sets = sets; sets_are = sets_are; all = all; all_are = all_are; refusal = inr refusal })))))
+
+-- what is told of AIRs and traces that tables encode
+pub tells_tables : {p : ℕ} (positive : 0 < p) (E : Extension (Residue p) (Quartic (Residue p))) (question : Asked) (airs : List Tables) (traces : List Traces) (limit : ℕ) (sets : List (Lookups (Residue p))) (all : List (ReadTraces (Residue p))) (ts : List (Traced (Residue p))) (numbers : List ℕ)
+    → AreDebugSets airs sets → AreTracesOfTables positive traces all → length traces ≡ length airs → ts ≡ all_debug_traced sets all → TellsNumbers E limit ts numbers question → TellsTables positive E question airs traces limit numbers
+tells_tables {p} positive E question airs traces limit sets all ts numbers sets_are all_are as_many ts_are tells = record {
+  sets = sets;
+  sets_are = sets_are;
+  all = all;
+  all_are = all_are;
+  as_many = as_many;
+  tells = subst (λ (us : List (Traced (Residue p))). TellsNumbers E limit us numbers question) ts_are tells;
+}
+
+-- there is less room than there are numbers
+pub long_told : {Tells : List ℕ → Type 0} (numbers : List ℕ) (long room : ℕ) (fault : Fault) → long ≡ length numbers → Tells numbers → (room < long) × (fault ≡ Length Numbers long room)
+    → (numbers : List ℕ) × Tells numbers × (room < length numbers) × (fault ≡ Length Numbers (length numbers) room)
+long_told numbers long room fault is tells refusal = (numbers, tells, omega (arith, refusal.0, is), refusal.1 ∙ ap (λ n. Length Numbers n room) is)

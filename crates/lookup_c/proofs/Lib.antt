@@ -2,8 +2,10 @@ pub mod AnswerLaws
 pub mod BatchLaws
 pub mod ByIdsLaws
 pub mod CellLaws
+pub mod ColumnChecks
 pub mod DebugLaws
 pub mod GenerateLaws
+pub mod GivenIdsLaws
 pub mod JoinedChecks
 pub mod JoinedLaws
 pub mod RefusalLaws

@@ -95,3 +95,17 @@ map_next f xs i d before after y there pushed is so_far = pushed ∙ ((λ k. so_
 pub all_ids_are : (ids : List (Vec ℕ Global)) → concat (lists_of ids) ≡ flat_map id_items ids
 all_ids_are [] = refl
 all_ids_are (list ∷ rest) = ap (λ more. list.items ++ more) (all_ids_are rest)
+
+-- items that are appended, and then others
+pub appended_twice : {A : Type 0} (old xs ys between after : List A) → between ≡ old ++ xs → after ≡ between ++ ys → after ≡ old ++ (xs ++ ys)
+appended_twice old xs ys between after first second = second ∙ (ap (λ zs. zs ++ ys) first ∙ append_assoc old xs ys)
+
+-- the items of one part more are appended
+pub part_appended : {X A : Type 0} (f : X → List A) (xs : List X) (i : ℕ) (x : X) → i < length xs → x ≡ get_or xs i x → (old before after : List A) → before ≡ old ++ flat_map f (take i xs) → after ≡ before ++ f x → after ≡ old ++ flat_map f (take (i + 1) xs)
+part_appended f xs i x there is old before after so_far appended =
+    appended_twice old (flat_map f (take i xs)) (f x) before after so_far appended
+    ∙ ap (λ ys. old ++ ys) (sym (flat_next f xs i x there ∙ ap (λ y. flat_map f (take i xs) ++ f y) (sym is)))
+
+-- those of all parts
+pub all_appended : {X A : Type 0} (f : X → List A) (xs : List X) (i : ℕ) → length xs ≤ i → (old after : List A) → after ≡ old ++ flat_map f (take i xs) → after ≡ old ++ flat_map f xs
+all_appended f xs i all old after so_far = so_far ∙ ap (λ ys. old ++ flat_map f ys) (take_all i xs all)

@@ -1,5 +1,5 @@
 -- Batches that tables of numbers encode.
-use Rattle.std.specs.Prelude.{◌<◌, ◌≡◌, ◌⊎◌, ℕ, All, List, map}
+use Rattle.std.specs.Prelude.{◌<◌, ◌≡◌, ◌⊎◌, ℕ, All, List, false, map, true}
 use Rattle.std.specs.List.{AllZip}
 use Rattle.field.specs.Residue.{Residue}
 use Rattle.expressions.specs.Faults.{HasFirstFault}
@@ -10,7 +10,7 @@ use Rattle.lookup_model.specs.declared.error.LookupError.TheVariants.{BadRecord}
 use Rattle.lookup_model.specs.declared.types.Lookup.{Lookup}
 use Rattle.lookup.specs.Lookups.{lookups_of}
 use Rattle.lookup.specs.declared.lookups.Lookups.{Lookups}
-use Rattle.batch.specs.Checks.{HaveEvenWidths, IsPlanRefusal}
+use Rattle.batch.specs.Checks.{HaveEvenWidths, IsPlanFor, IsPlanOver, IsPlanRefusal, IsRefusalOver}
 use Rattle.batch.specs.PlanFacts.{AreNumbered, IsPlan}
 use Rattle.batch.specs.Plans.{Plan}
 use Rattle.batch.specs.Runs.{Run, run_of}
@@ -23,6 +23,7 @@ use Rattle.lookup_tables.specs.TraceNumbers.{AreNumbersOfTraces, AreTracesOfNumb
 use Rattle.lookup_tables.specs.declared.tables.Tables.{Tables}
 use Rattle.lookup_tables.specs.declared.traces.ReadTraces.{ReadTraces}
 use Rattle.lookup_tables.specs.declared.traces.Traces.{Traces}
+use Rattle.lookup_c.specs.GivenIds.{given_ids, have_given_ids, id_bound}
 use Rattle.lookup_c.specs.Inputs.{IsInputChallenge, IsInputChallengeRefusal, IsInputTableRefusal, IsInputTracesRefusal, decoded_traces}
 use Rattle.lookup_c.specs.declared.batch_tables.Air.{Air}
 use Rattle.lookup_c.specs.declared.codes.Part.TheVariants.{Alphas, Betas}
@@ -51,21 +52,46 @@ IsSetsOfTablesRefusal p airs fault = (fault ≡ Memory) ⊎ HasFirstFault (λ ai
 abbrev pub heights_of_tables : List Air → List ℕ
 heights_of_tables airs = map (λ air. air.height) airs
 
--- The plan of the AIRs: of the lookups that their tables encode, and of their heights. Its ids are the first
--- numbers, given in order.
+-- The ids of a plan: the first numbers, given in order; or those that the AIRs are given.
+abbrev pub HasIdsOfTables : {p : ℕ} → List Air → Plan (Residue p) → Type 0
+HasIdsOfTables airs plan =
+    ((have_given_ids airs ≡ false) × AreNumbered plan.ids plan.airs plan.num_ids)
+    ⊎ ((have_given_ids airs ≡ true) × (plan.ids ≡ given_ids airs) × (plan.num_ids ≡ id_bound (given_ids airs)))
+
+-- The plan of the AIRs: of the lookups that their tables encode, of their heights, and of their ids.
 pub record IsPlanOfTables {p : ℕ} (airs : List Air) (plan : Plan (Residue p)) : Type 0 where
   pub sets : AreSetsOfTables airs plan.airs
   pub heights : plan.heights ≡ heights_of_tables airs
   pub facts : IsPlan p plan
   pub even : HaveEvenWidths plan.airs
-  pub numbered : AreNumbered plan.ids plan.airs plan.num_ids
+  pub ids_are : HasIdsOfTables airs plan
+
+-- the plan of these sets and heights over the ids that the AIRs are given
+abbrev pub IsPlanOverGiven : {p : ℕ} → List Air → List (Lookups (Residue p)) → List ℕ → Plan (Residue p) → Type 0
+IsPlanOverGiven airs sets heights plan = IsPlanOver sets heights (given_ids airs) (id_bound (given_ids airs)) plan
+
+-- and its refusal
+abbrev pub IsGivenIdsRefusal : {p : ℕ} → List Air → List (Lookups (Residue p)) → List ℕ → BatchError → Type 0
+IsGivenIdsRefusal {p} airs sets heights e = IsRefusalOver p sets heights (given_ids airs) (id_bound (given_ids airs)) e
+
+-- the plan of these sets and heights: with ids of its own, or over those that the AIRs are given
+abbrev pub IsPlanFromTables : {p : ℕ} → List Air → List (Lookups (Residue p)) → List ℕ → Plan (Residue p) → Type 0
+IsPlanFromTables airs sets heights plan =
+    ((have_given_ids airs ≡ false) × IsPlanFor sets heights plan)
+    ⊎ ((have_given_ids airs ≡ true) × IsPlanOverGiven airs sets heights plan)
+
+-- and its refusal
+abbrev pub IsPlanningRefusal : {p : ℕ} → List Air → List (Lookups (Residue p)) → List ℕ → BatchError → Type 0
+IsPlanningRefusal {p} airs sets heights e =
+    ((have_given_ids airs ≡ false) × IsPlanRefusal p sets heights e)
+    ⊎ ((have_given_ids airs ≡ true) × IsGivenIdsRefusal airs sets heights e)
 
 -- The refusal of the tables, or of the plan of what they encode; or memory runs out.
 abbrev pub IsPlanOfTablesRefusal : ℕ → List Air → Fault → Type 0
 IsPlanOfTablesRefusal p airs fault =
     IsSetsOfTablesRefusal p airs fault
     ⊎ ((sets : List (Lookups (Residue p))) × AreSetsOfTables airs sets
-    × ((e : BatchError) × (fault ≡ Batch e) × ((e ≡ NoMemory) ⊎ IsPlanRefusal p sets (heights_of_tables airs) e)))
+    × ((e : BatchError) × (fault ≡ Batch e) × ((e ≡ NoMemory) ⊎ IsPlanningRefusal airs sets (heights_of_tables airs) e)))
 
 -- the traces that tables encode, AIR by AIR
 abbrev pub AreTracesOfTables : {p : ℕ} → 0 < p → List Traces → List (ReadTraces (Residue p)) → Type 0

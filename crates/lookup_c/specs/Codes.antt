@@ -39,7 +39,8 @@ code_number code.WeightOverflow = 24
 code_number code.DegreeOverflow = 25
 code_number code.Mismatch = 26
 code_number code.BadText = 27
-code_number code.Unmet = 28
+code_number code.UnlawfulIds = 28
+code_number code.Unmet = 29
 
 -- the number of each fault of a record
 abbrev pub record_fault_number : RecordFault → ℕ
@@ -72,6 +73,7 @@ part_number part.Names = 15
 part_number part.Records = 16
 part_number part.Rows = 17
 part_number part.Offset = 18
+part_number part.Numbers = 19
 
 -- the part of a call that a part of the traces is
 abbrev pub part_of : TracePart → Part

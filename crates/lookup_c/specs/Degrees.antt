@@ -12,20 +12,20 @@ use Rattle.lookup_c.specs.declared.fault.Fault.TheVariants.{Length, Lookup as Of
 use Rattle.lookup_c.specs.declared.codes.Part.TheVariants.{Degrees}
 
 -- a degree that does not fit 64 bits; or memory runs out
-abbrev pub IsLargeDegreesRefusal : {F : Type 0} → List (Lookup F) → Fault → Type 0
-IsLargeDegreesRefusal {F} lookups fault =
+abbrev pub IsLargeDegreesRefusal : {F : Type 0} → ℕ → List (Lookup F) → Fault → Type 0
+IsLargeDegreesRefusal {F} transition_degree lookups fault =
     (fault ≡ Memory)
-    ⊎ ((i : ℕ) × (lookup : Lookup F) × (slice_get lookups i ≡ Some lookup) × (2 ^ 64 ≤ lookup_degree 0 lookup) × (fault ≡ OfLookup 0 DegreeOverflow))
+    ⊎ ((i : ℕ) × (lookup : Lookup F) × (slice_get lookups i ≡ Some lookup) × (2 ^ 64 ≤ lookup_degree transition_degree lookup) × (fault ≡ OfLookup 0 DegreeOverflow))
 
--- the degree of each lookup that the tables encode
-pub record CallGivesDegrees (p : ℕ) (tables : Tables) (degrees : List ℕ) : Type 0 where
+-- the degree of each lookup that the tables encode, where the transition selector has this degree
+pub record CallGivesDegrees (p : ℕ) (tables : Tables) (transition_degree : ℕ) (degrees : List ℕ) : Type 0 where
   pub lookups : List (Lookup (Residue p))
   pub encoded : TablesEncode tables lookups
-  pub degrees_are : degrees ≡ map (lookup_degree 0) lookups
+  pub degrees_are : degrees ≡ map (lookup_degree transition_degree) lookups
 
 -- The refusal of the lookups, of a degree, or for the room.
-abbrev pub IsDegreesRefusal : ℕ → Tables → ℕ → Fault → Type 0
-IsDegreesRefusal p tables room fault =
+abbrev pub IsDegreesRefusal : ℕ → Tables → ℕ → ℕ → Fault → Type 0
+IsDegreesRefusal p tables transition_degree room fault =
     IsSetOfTablesRefusal p 0 tables fault
     ⊎ ((lookups : List (Lookup (Residue p))) × TablesEncode tables lookups
-    × (IsLargeDegreesRefusal lookups fault ⊎ ((length lookups ≢ room) × (fault ≡ Length Degrees (length lookups) room))))
+    × (IsLargeDegreesRefusal transition_degree lookups fault ⊎ ((length lookups ≢ room) × (fault ≡ Length Degrees (length lookups) room))))

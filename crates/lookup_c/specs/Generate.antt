@@ -44,6 +44,11 @@ module _ {F : Type 0} (traces : AirTraces F) (lookups : List (Lookup F)) where
   abbrev pub IsGenerateUnfit : Fault → Type 0
   IsGenerateUnfit fault = IsGenerateMisfit fault ⊎ IsGenerateOtherHeight fault
 
+-- there are fewer than two challenges for each lookup
+abbrev pub HasFewChallenges : {F K : Type 0} → List (Lookup F) → List K → Fault → Type 0
+HasFewChallenges lookups challenges fault =
+    (fault ≡ Length Challenges (min (length lookups * 2) (2 ^ 64 - 1)) (length challenges)) × (length challenges < 2 * length lookups)
+
 module _ {F K : Type 0} (E : Extension F K) (traces : AirTraces F) (challenges : List K) (lookups : List (Lookup F)) where
   -- The plain result over these lookups, which fit the traces and have no fault; it satisfies the
   -- constraints.
@@ -58,11 +63,6 @@ module _ {F K : Type 0} (E : Extension F K) (traces : AirTraces F) (challenges :
   abbrev pub CallGeneratesLookups : Generated K → Type 0
   CallGeneratesLookups g = CallGeneratesOver g.auxiliary g.terminal
 
-  -- there are fewer than two challenges for each lookup
-  abbrev pub HasFewGenerateChallenges : Fault → Type 0
-  HasFewGenerateChallenges fault =
-      (fault ≡ Length Challenges (min (length lookups * 2) (2 ^ 64 - 1)) (length challenges)) × (length challenges < 2 * length lookups)
-
   -- the lookups fit the traces, and this is the first fault of generation
   pub record HasFirstGenerateFault (error : LookupError) : Type 0 where
     pub fit : LookupsFit (layout_of traces) lookups
@@ -74,7 +74,7 @@ module _ {F K : Type 0} (E : Extension F K) (traces : AirTraces F) (challenges :
 
   -- the refusal of generation over these lookups
   abbrev pub IsGenerateLookupsRefusal : Fault → Type 0
-  IsGenerateLookupsRefusal fault = IsGenerateUnfit traces lookups fault ⊎ (HasFewGenerateChallenges fault ⊎ IsFirstGenerateFault fault)
+  IsGenerateLookupsRefusal fault = IsGenerateUnfit traces lookups fault ⊎ (HasFewChallenges lookups challenges fault ⊎ IsFirstGenerateFault fault)
 
 -- there is not room for exactly the cells of a trace
 abbrev pub HasOtherGenerateRoom : {K : Type 0} → Matrix K → ℕ → Fault → Type 0

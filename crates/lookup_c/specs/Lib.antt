@@ -2,11 +2,15 @@ pub mod BatchTables
 pub mod CallAnswers
 pub mod Codes
 pub mod DebugCheck
+pub mod DebugNumbers
 pub mod Degrees
+pub mod FitFault
 pub mod Generate
 pub mod GenerateByIds
 pub mod GenerateRows
+pub mod GivenIds
 pub mod GridCount
+pub mod GroupNumbers
 pub mod Inputs
 pub mod JoinedRows
 pub mod Outputs
@@ -21,6 +25,7 @@ pub mod Shift
 pub mod SoundnessCount
 pub mod SoundnessOfHeights
 pub mod Verify
+pub mod VerifyAir
 pub mod VerifyRows
 pub mod Witnesses
 pub mod WrittenTables

@@ -1,15 +1,19 @@
 //! The AIRs of a batch, and the plan that they make.
-ghost use Rattle.std.specs.Prelude.{◌≡◌, IfOk, MatchResult, map};
+ghost use Rattle.std.specs.Prelude.{◌≡◌, ◌⊎◌, IfOk, MatchResult, map, max};
+ghost use Rattle.std.specs.List.{list_any};
+ghost use Rattle.batch.specs.Lists.{lists_of};
 ghost use Rattle.batch.specs.Runs.{plan_of};
 ghost use Rattle.batch.specs.Traces.{view_of};
 ghost use Rattle.lookup.specs.Lookups.{lookups_of};
 ghost use Rattle.lookup_tables.specs.Tables.{TablesEncode};
-ghost use Rattle.lookup_c.specs.BatchTables.{AreTracesOfTables, AreSetsOfTables, IsSetsOfTablesRefusal, IsTracesOfTablesRefusal, IsPlanOfTables, IsPlanOfTablesRefusal, IsSetOfTablesRefusal};
+ghost use Rattle.lookup_model.specs.LookupDegree.{greatest};
+ghost use Rattle.lookup_c.specs.GivenIds.{given_ids, has_own_ids, id_bound, next_number};
+ghost use Rattle.lookup_c.specs.BatchTables.{AreTracesOfTables, AreSetsOfTables, IsSetsOfTablesRefusal, IsTracesOfTablesRefusal, IsPlanFromTables, IsGivenIdsRefusal, IsPlanOfTables, IsPlanOfTablesRefusal, IsPlanOverGiven, IsPlanningRefusal, IsSetOfTablesRefusal};
 ghost use Rattle.lookup_c.specs.Inputs.{view_of_read};
 
 use crate::fault::Fault;
 use crate::inputs::{lookups_of, traces_of};
-use batch::{BatchPlan, BatchTrace};
+use batch::{BatchError, BatchPlan, BatchTrace};
 use field::{MontyField31, QuarticParameters};
 use lookup::Lookups;
 use lookup_tables::{ReadTraces, Tables, Traces};
@@ -23,6 +27,8 @@ pub struct Air<'a> {
     pub tables: Tables<'a>,
     /// The height of the traces.
     pub height: usize,
+    /// The ids of the lookups: given for all AIRs of a batch, or for none, where the plan gives them.
+    pub ids: &'a [usize],
 }
 
 /// The set of lookups that the tables of an AIR encode.
@@ -67,7 +73,83 @@ fn heights_of(alloc: Global, airs: &[Air<'_>]) -> Result<Vec<usize>, AllocError>
     Ok(heights)
 }
 
-/// The plan of these AIRs.
+/// Whether some AIR has ids that are given.
+fn has_ids(airs: &[Air<'_>]) -> bool
+    ensures { result ≡ list_any has_own_ids airs.now }
+{
+    airs.iter().any(|air| !air.ids.is_empty())
+}
+
+/// The ids that are given, AIR by AIR.
+fn given_ids(alloc: Global, airs: &[Air<'_>]) -> Result<Vec<Vec<usize>>, AllocError>
+    ensures { IfOk result (λ v. lists_of v.items ≡ given_ids airs.now) }
+{
+    let mut ids = Vec::with_capacity(alloc, airs.len())?;
+    for index in 0..airs.len() {
+        let air = &airs[index];
+        ids.push(Vec::from_slice(alloc, air.ids)?)?;
+    }
+    Ok(ids)
+}
+
+/// The greater of `bound` and one more than the greatest id, up to `usize::MAX`.
+fn bound_of(ids: &[usize], bound: usize) -> usize
+    ensures { result ≡ max bound (greatest (map next_number ids.now)) }
+{
+    let mut least = bound;
+    for index in 0..ids.len() {
+        let id = &ids[index];
+        least = least.max(id.saturating_add(1));
+    }
+    least
+}
+
+/// The least number of ids that all these are below, up to `usize::MAX`.
+fn id_bound(ids: &[Vec<usize>]) -> usize
+    ensures { result ≡ id_bound (lists_of ids.now) }
+{
+    let mut bound = 0;
+    for list in ids {
+        bound = bound_of(list.as_slice(), bound);
+    }
+    bound
+}
+
+/// The plan of these sets and heights over the ids that the AIRs are given.
+fn plan_over<const P: u32, K: QuarticParameters<P>>(
+    alloc: Global,
+    airs: &[Air<'_>],
+    sets: Vec<Lookups<MontyField31<P, K>>>,
+    heights: Vec<usize>,
+) -> Result<BatchPlan<MontyField31<P, K>>, BatchError>
+    ensures { MatchResult result
+        (λ plan. IsPlanOverGiven airs.now sets.items heights.items (plan_of plan))
+        (λ e. (e ≡ BatchError.Memory) ⊎ IsGivenIdsRefusal airs.now sets.items heights.items e) }
+{
+    let ids = given_ids(alloc, airs)?;
+    let num_ids = id_bound(&ids);
+    BatchPlan::with_ids(alloc, sets, heights, ids, num_ids)
+}
+
+/// The plan of these sets and heights: over the ids that the AIRs are given, or else with its own.
+fn plan_from<const P: u32, K: QuarticParameters<P>>(
+    alloc: Global,
+    airs: &[Air<'_>],
+    sets: Vec<Lookups<MontyField31<P, K>>>,
+    heights: Vec<usize>,
+) -> Result<BatchPlan<MontyField31<P, K>>, BatchError>
+    ensures { MatchResult result
+        (λ plan. IsPlanFromTables airs.now sets.items heights.items (plan_of plan))
+        (λ e. (e ≡ BatchError.Memory) ⊎ IsPlanningRefusal airs.now sets.items heights.items e) }
+{
+    if has_ids(airs) {
+        plan_over(alloc, airs, sets, heights)
+    } else {
+        BatchPlan::new(alloc, sets, heights)
+    }
+}
+
+/// The plan of these AIRs: over the ids that are given, or else with its own.
 ///
 /// Refuses the first AIR whose tables are refused, or whose lookups have lists of different lengths, and
 /// then what a plan refuses.
@@ -81,7 +163,8 @@ pub(crate) fn plan_of<const P: u32, K: QuarticParameters<P>>(
 {
     let sets = sets_of::<P, K>(alloc, airs)?;
     let heights = heights_of(alloc, airs)?;
-    Ok(BatchPlan::new(alloc, sets, heights)?)
+    let plan = plan_from(alloc, airs, sets, heights)?;
+    Ok(plan)
 }
 
 /// The traces that the tables of all AIRs encode, in order.

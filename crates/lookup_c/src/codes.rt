@@ -34,8 +34,9 @@ pub(crate) enum Code {
     DegreeOverflow = 25,
     Mismatch = 26,
     BadText = 27,
+    UnlawfulIds = 28,
     /// A refusal that no call can meet, which the header has no name for.
-    Unmet = 28,
+    Unmet = 29,
 }
 
 /// What is wrong with a record: the part of `BadTable`.
@@ -90,6 +91,8 @@ pub enum Part {
     Rows = 17,
     /// What rows are shifted by.
     Offset = 18,
+    /// The numbers of a table of groups, or of a mismatch.
+    Numbers = 19,
 }
 
 impl fmt::Display for Part {
@@ -113,6 +116,7 @@ impl fmt::Display for Part {
             Part::Records => write!(f, "records"),
             Part::Rows => write!(f, "rows"),
             Part::Offset => write!(f, "offset"),
+            Part::Numbers => write!(f, "numbers"),
         }
     }
 }

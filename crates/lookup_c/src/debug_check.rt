@@ -19,7 +19,7 @@ use lookup_tables::{ReadTraces, Tables, Traces};
 use std::alloc::Global;
 
 /// The sets of lookups that tables encode, AIR by AIR.
-fn table_sets<const P: u32, K: QuarticParameters<P>>(
+pub(crate) fn table_sets<const P: u32, K: QuarticParameters<P>>(
     alloc: Global,
     airs: &[Tables<'_>],
 ) -> Result<Vec<Lookups<MontyField31<P, K>>>, Fault>
@@ -68,7 +68,7 @@ fn debug_instance<'a, const P: u32, K: QuarticParameters<P>>(
 /// What the debug check is given of all AIRs.
 ///
 /// Refuses the first AIR whose lookups do not fit its traces.
-fn debug_instances<'a, const P: u32, K: QuarticParameters<P>>(
+pub(crate) fn debug_instances<'a, const P: u32, K: QuarticParameters<P>>(
     alloc: Global,
     sets: &'a [Lookups<MontyField31<P, K>>],
     traces: &'a [ReadTraces<MontyField31<P, K>>],

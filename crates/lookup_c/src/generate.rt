@@ -4,7 +4,7 @@ ghost use Rattle.std.specs.Result.{OnErr};
 ghost use Rattle.field.specs.laws.BabyBear.{baby_bear_positive};
 ghost use Rattle.air.specs.Traces.{HaveOneHeight, traces_of};
 ghost use Rattle.lookup_c.specs.CallAnswers.{CallAnswers};
-ghost use Rattle.lookup_c.specs.Generate.{GenerateFits, HasOtherGenerateRoom, CallGeneratesLookups, CallGeneratesNumbers, CallGeneratesTables, IsGenerateCallRefusal, IsFirstGenerateFault, IsGenerateLookupsRefusal, IsGenerateRefusal, IsGenerateUnfit};
+ghost use Rattle.lookup_c.specs.Generate.{GenerateFits, HasFewChallenges, HasOtherGenerateRoom, CallGeneratesLookups, CallGeneratesNumbers, CallGeneratesTables, IsGenerateCallRefusal, IsFirstGenerateFault, IsGenerateLookupsRefusal, IsGenerateRefusal, IsGenerateUnfit};
 ghost use Rattle.lookup_c.specs.Inputs.{view_of_read};
 ghost use Rattle.lookup_c.specs.internal.Generate.{AreNumbersOfGenerated};
 
@@ -48,6 +48,24 @@ pub(crate) fn check_fit<const P: u32, K: QuarticParameters<P>>(
         if trace.height() != main.height() {
             return Err(Fault::Heights { air: 0 });
         }
+    }
+    Ok(())
+}
+
+/// Whether there are two challenges for each lookup.
+pub(crate) fn check_enough<const P: u32, K: QuarticParameters<P>>(
+    lookups: &[Lookup<MontyField31<P, K>>],
+    challenges: &[MontyQuartic<P, K>],
+) -> Result<(), Fault>
+    ensures { MatchResult result (λ _. 2 * length lookups.now ≤ length challenges.now)
+        (HasFewChallenges lookups.now challenges.now) }
+{
+    if challenges.len() / 2 < lookups.len() {
+        return Err(Fault::Length {
+            part: Part::Challenges,
+            expected: lookups.len().saturating_mul(2),
+            actual: challenges.len(),
+        });
     }
     Ok(())
 }
@@ -102,13 +120,7 @@ fn generate_lookups<const P: u32, K: QuarticParameters<P>>(
         (IsGenerateLookupsRefusal E (view_of_read traces.now) challenges.now lookups.now) }
 {
     check_fit(traces, lookups)?;
-    if challenges.len() / 2 < lookups.len() {
-        return Err(Fault::Length {
-            part: Part::Challenges,
-            expected: lookups.len().saturating_mul(2),
-            actual: challenges.len(),
-        });
-    }
+    check_enough(lookups, challenges)?;
     generate_fitting(alloc, traces, lookups, challenges)
 }
 

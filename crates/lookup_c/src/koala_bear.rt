@@ -371,16 +371,22 @@ pub extern "C" fn volgwain_koala_bear_verify_rows(
 pub extern "C" fn volgwain_koala_bear_degrees(
     alloc: Global,
     tables: &Tables<'_>,
+    transition_degree: usize,
     degrees: &mut [usize],
     refusal: &mut Refusal,
     text: &mut [u8],
 ) -> u32
     ensures answers { CallAnswers result refusal.new
-        (CallGivesDegrees 2130706433 tables.now degrees.new)
-        (IsDegreesRefusal 2130706433 tables.now (length degrees.old)) }
+        (CallGivesDegrees 2130706433 tables.now transition_degree degrees.new)
+        (IsDegreesRefusal 2130706433 tables.now transition_degree (length degrees.old)) }
     ensures kept { result ≢ 0 → degrees.new ≡ degrees.old }
 {
-    match answer_degrees::<2_130_706_433, KoalaBearParameters>(alloc, tables, degrees) {
+    match answer_degrees::<2_130_706_433, KoalaBearParameters>(
+        alloc,
+        tables,
+        transition_degree,
+        degrees,
+    ) {
         Ok(()) => accept(refusal),
         Err(fault) => refuse(&fault, refusal, text),
     }

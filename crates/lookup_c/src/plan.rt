@@ -105,7 +105,8 @@ pub(crate) fn answer_plan<const P: u32, K: QuarticParameters<P>>(
 
 /// Gives the plan of a batch: an id for each lookup, AIR by AIR, and its sizes.
 ///
-/// Lookups on one bus share an id, and each local lookup has its own.
+/// Lookups on one bus share an id, and each local lookup has its own. Where the AIRs have ids, these are the ids,
+/// and there are as many as the greatest of them and one.
 ///
 /// Answers 0, or the code of a refusal. A refused call leaves the ids and the sizes as they were.
 #[unsafe(no_mangle)]

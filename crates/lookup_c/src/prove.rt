@@ -116,8 +116,8 @@ pub(crate) fn answer_prove<const P: u32, K: QuarticParameters<P>>(
 
 /// Makes the witness of a batch: the auxiliary traces and the terminals of its AIRs.
 ///
-/// The plan is that of the AIRs' lookups and heights. The auxiliary traces stand one after the other, each
-/// row after row: an AIR with lookups has a row for each row of its traces, and one cell more than lookups
+/// The plan is that of the AIRs' lookups, heights and ids, if these are given. The auxiliary traces stand one
+/// after the other, each row after row: an AIR with lookups has a row for each row of its traces, and one cell more than lookups
 /// in each, and one without lookups has none. There is a terminal for each AIR.
 ///
 /// Answers 0, or the code of a refusal. A refused call leaves the auxiliary traces and the terminals as

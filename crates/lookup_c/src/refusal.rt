@@ -1,5 +1,5 @@
 //! Refusals as C sees them.
-ghost use Rattle.std.specs.Prelude.{◌≡◌, ◌≢◌};
+ghost use Rattle.std.specs.Prelude.{◌≡◌, ◌≢◌, ◌<◌, Some, length, slice_get};
 ghost use Rattle.lookup_c.specs.Codes.{part_of};
 ghost use Rattle.lookup_c.specs.Refusals.{IsRefusalOf, bad_length, bad_number, bad_rows, bad_table, batch_refusal, lookup_refusal, no_refusal, of_air, of_code, on_row, refusal_numbers, refusal_of, table_refusal, trace_refusal, unexpected, witness_refusal};
 
@@ -240,7 +240,7 @@ fn batch_refusal(error: &BatchError) -> Refusal
             bad_length(Part::Batch, *expected, *actual)
         }
         BatchError::TooManyIds { ids } => unexpected(Code::TooManyIds, 0, *ids),
-        BatchError::UnlawfulIds => Refusal::of(Code::Unmet),
+        BatchError::UnlawfulIds => Refusal::of(Code::UnlawfulIds),
         BatchError::TraceMismatch { air } => of_air(Code::TraceMismatch, *air),
         BatchError::RepeatedChallenge => Refusal::of(Code::RepeatedChallenge),
         BatchError::Air { air, error } => lookup_refusal(*air, error),
@@ -280,6 +280,8 @@ pub(crate) fn refuse(fault: &Fault, refusal: &mut Refusal, text: &mut [u8]) -> u
     ensures code { result ≡ refusal.new.code }
     ensures refused { result ≢ 0 }
     ensures is { IsRefusalOf fault.now refusal.new }
+    ensures closed { refusal.new.text_length < length text.old
+        → slice_get text.new refusal.new.text_length ≡ Some 0 }
 {
     let made = refusal_of(fault);
     let text_length = write_text(fault, text);

@@ -1,4 +1,5 @@
 //! Texts in arrays of a caller.
+ghost use Rattle.std.specs.Prelude.{◌≡◌, ◌<◌, Some, length, slice_get};
 
 use crate::fault::Fault;
 use std::fmt;
@@ -24,11 +25,21 @@ impl fmt::Write for Text<'_> {
     }
 }
 
-/// Writes the text of a fault, cut to the room there is, and returns the length of the whole.
+/// Writes the text of a fault, cut to the room there is, with a zero after it where there is room for one. Returns the
+/// length of the whole without that zero.
 ///
 /// Asks for no memory.
-pub(crate) fn write_text(fault: &Fault, bytes: &mut [u8]) -> usize {
-    let mut text = Text { bytes, length: 0 };
+pub(crate) fn write_text(fault: &Fault, bytes: &mut [u8]) -> usize
+    ensures closed { result < length bytes.old → slice_get bytes.new result ≡ Some 0 }
+{
+    let mut text = Text {
+        bytes: &mut *bytes,
+        length: 0,
+    };
     let _ = write!(text, "{fault}");
-    text.length
+    let length = text.length;
+    if length < bytes.len() {
+        bytes[length] = 0;
+    }
+    length
 }

@@ -44,7 +44,7 @@ pub(crate) fn answer_verify<const P: u32, K: QuarticParameters<P>>(
 
 /// Whether a witness of a batch, whoever made it, is accepted.
 ///
-/// The plan is that of the AIRs' lookups and heights.
+/// The plan is that of the AIRs' lookups, heights and ids, if these are given.
 ///
 /// Answers 0 if the witness is accepted, and otherwise the code of the first refusal.
 #[unsafe(no_mangle)]

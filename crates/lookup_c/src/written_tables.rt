@@ -77,7 +77,7 @@ fn tables_of<const P: u32, K: QuarticParameters<P>>(
 }
 
 /// Whether an array has room for so many items.
-fn check_items(part: Part, expected: usize, actual: usize) -> Result<(), Fault>
+pub(crate) fn check_items(part: Part, expected: usize, actual: usize) -> Result<(), Fault>
     ensures { MatchResult result (λ _. expected ≤ actual)
         (λ fault. (actual < expected) × (fault ≡ Length part expected actual)) }
 {
@@ -123,7 +123,7 @@ pub(crate) fn tables_for<const P: u32, K: QuarticParameters<P>>(
 }
 
 /// Writes items from the start of an array on.
-fn write_items<T: Copy>(array: &mut [T], values: &[T])
+pub(crate) fn write_items<T: Copy>(array: &mut [T], values: &[T])
     requires { length values.now ≤ length array.old }
     ensures { array.new ≡ written_over values.now array.old }
 {

@@ -16,8 +16,9 @@ use std::sync::Once;
 use volgwain::generic::{Air, Batch};
 use volgwain::{Code, Traces};
 use volgwain_plonky3::{
-    AirWitness, Error, Extension, OwnedTraces, SharedField, challenges, check_lookups, debug_check,
-    element_from_p3, from_p3, generate_permutation, witness_from_p3, witness_to_p3,
+    AirWitness, Error, Extension, OwnedTraces, SharedField, bus_table, challenges, check_lookups,
+    debug_check, element_from_p3, from_p3, generate_permutation, mismatch, verify_permutation,
+    witness_from_p3, witness_to_p3,
 };
 
 /// What asks for no plan: degrees, the debug check, and generation under any challenges.
@@ -27,9 +28,19 @@ pub fn compare_airs<F: SharedField>(draws: &mut Draws, tables: &[Table<F>]) {
         let degrees: Vec<usize> =
             table.lookups().iter().map(|lookup| gadget.constraint_degree(lookup)).collect();
         assert_eq!(air_of(table).degrees(), Ok(degrees));
+        for transition in 0..4 {
+            let degree = |it| gadget.constraint_degree_with_transition(it, transition);
+            let degrees: Vec<usize> = table.lookups().iter().map(degree).collect();
+            assert_eq!(air_of(table).degrees_at(transition), Ok(degrees));
+        }
         let challenges: Vec<Extension<F>> =
             (0..2 * table.lookups().len()).map(|_| draws.extension::<F>()).collect();
-        compare_generation(table, &challenges);
+        if let Some(mut made) = compare_generation(table, &challenges) {
+            for _ in 0..3 {
+                compare_verdicts(table, &challenges, &made);
+                change::<F>(draws, std::slice::from_mut(&mut made));
+            }
+        }
     }
     compare_debug_checks(tables);
 }
@@ -116,6 +127,24 @@ fn compare_generation<F: SharedField>(
     }
 }
 
+/// Whether a part is satisfied under these challenges, or the first row on which it is not.
+fn compare_verdicts<F: SharedField>(
+    table: &Table<F>,
+    challenges: &[Extension<F>],
+    part: &AirWitness<F>,
+) {
+    let Table { main, preprocessed, public_values, .. } = table;
+    let lookups = table.lookups();
+    let verdict = verify_permutation(main, preprocessed, public_values, lookups, challenges, part);
+    match (verdict, failing_row(table, challenges, part)) {
+        (Ok(()), None) => {}
+        (Err(Error::Refused(error)), Some(row)) => {
+            assert_eq!((error.code(), error.row()), (Code::ConstraintFailed, Some(row)));
+        }
+        (verdict, row) => panic!("one refuses: {verdict:?}, {row:?}"),
+    }
+}
+
 fn compare_debug_checks<F: SharedField>(tables: &[Table<F>]) {
     let instances: Vec<LookupDebugInstance<'_, F>> = tables
         .iter()
@@ -129,10 +158,14 @@ fn compare_debug_checks<F: SharedField>(tables: &[Table<F>]) {
         .collect();
     let theirs = caught(|| debug_util::check_lookups(&instances));
     assert_eq!(caught(|| check_lookups(&instances)), theirs);
+    let found = mismatch(&instances, usize::MAX).expect("lookups fit their traces");
+    let table = bus_table(&instances, 0).expect("lookups fit their traces");
+    assert_eq!(table.iter().all(|group| group.unbalanced == 0), theirs.is_ok());
     match debug_check(&instances) {
-        Ok(()) => assert!(theirs.is_ok()),
+        Ok(()) => assert!(theirs.is_ok() && found.is_none()),
         Err(Error::Refused(error)) => {
             assert_eq!((error.code(), theirs.is_err()), (Code::Mismatch, true));
+            assert_eq!(found.map(|it| it.to_string()).as_deref(), Some(error.text()));
         }
         Err(error) => panic!("{error}"),
     }

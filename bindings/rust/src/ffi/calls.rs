@@ -3,12 +3,13 @@
 
 use super::abi;
 use super::declared::{
-    self, Counts, Grid, HeightCounts, PlanSizes, Refusal, Rows, TableSizes, Terminal, Wide,
+    self, Counts, Fit, Grid, HeightCounts, PlanSizes, Refusal, Rows, TableSizes, Terminal, Wide,
 };
 use crate::batch::{GridCount, HeightSoundness, SoundnessCount};
 use crate::element::Element;
-use crate::error::Error;
+use crate::error::{Error, Part};
 use crate::field::Field;
+use crate::memory::copies;
 use crate::tables::{Room, Tables};
 use crate::traces::{Trace, Traces};
 use crate::witness::AirWitness;
@@ -17,11 +18,16 @@ use std::ffi::c_char;
 /// How many bytes of a text are taken at first.
 const TEXT_SIZE: usize = 256;
 
-/// An AIR of a batch: its lookups, and the height of its traces.
+/// How many numbers of what the debug check finds are taken at first.
+const NUMBERS: usize = 256;
+
+/// An AIR of a batch: its lookups, the height of its traces, and the ids of its lookups, none where
+/// the plan gives them.
 #[derive(Clone, Copy)]
 pub(crate) struct Planned<'a, F> {
     pub(crate) tables: &'a Tables<F>,
     pub(crate) height: usize,
+    pub(crate) ids: &'a [usize],
 }
 
 /// Generates the auxiliary trace and the terminal of one AIR.
@@ -54,14 +60,64 @@ pub(crate) fn generate<F: Field>(
     })
 }
 
-/// Gives the degree of each lookup's constraint.
-pub(crate) fn degrees<F: Field>(tables: &Tables<F>, degrees: &mut [usize]) -> Result<(), Error> {
+/// Whether what a witness has for one AIR satisfies every constraint, under challenges for each lookup.
+pub(crate) fn verify_air<F: Field>(
+    tables: &Tables<F>,
+    traces: &Traces<'_>,
+    challenges: &[[Element<F>; 2]],
+    witness: &AirWitness<'_, F>,
+) -> Result<(), Error> {
+    let (tables, traces, witness) = (raw_tables(tables), raw_traces(traces), raw_witness(witness));
+    let challenges = challenges.as_flattened();
+    answer(|refusal, text, size| {
+        // SAFETY: `tables`, `traces`, `challenges` and what `witness` points to are borrowed for the
+        // whole call; each length is that of its slice. It writes the refusal and its text alone.
+        unsafe {
+            (F::CALLS.verify_air)(
+                &tables,
+                &traces,
+                challenges.as_ptr(),
+                challenges.len(),
+                &witness,
+                refusal,
+                text,
+                size,
+            )
+        }
+    })
+}
+
+/// Says why lookups do not fit traces.
+pub(crate) fn fit_fault<F: Field>(tables: &Tables<F>, traces: &Traces<'_>) -> Result<Fit, Error> {
+    let (tables, traces) = (raw_tables(tables), raw_traces(traces));
+    let mut fit = Fit::default();
+    answer(|refusal, text, size| {
+        // SAFETY: `tables` and `traces` are borrowed for the whole call, and `fit` as mutable.
+        unsafe { (F::CALLS.fit_fault)(&tables, &traces, &mut fit, refusal, text, size) }
+    })?;
+    Ok(fit)
+}
+
+/// Gives the degree of each lookup's constraint, if the transition selector has this one.
+pub(crate) fn degrees<F: Field>(
+    tables: &Tables<F>,
+    transition_degree: usize,
+    degrees: &mut [usize],
+) -> Result<(), Error> {
     let tables = raw_tables(tables);
     answer(|refusal, text, size| {
         // SAFETY: `tables` is borrowed for the whole call, and `degrees`, whose length is given, as
         // mutable.
         unsafe {
-            (F::CALLS.degrees)(&tables, degrees.as_mut_ptr(), degrees.len(), refusal, text, size)
+            (F::CALLS.degrees)(
+                &tables,
+                transition_degree,
+                degrees.as_mut_ptr(),
+                degrees.len(),
+                refusal,
+                text,
+                size,
+            )
         }
     })
 }
@@ -366,6 +422,64 @@ pub(crate) fn debug_check<F: Field>(
     })
 }
 
+/// The numbers of the table of all groups.
+pub(crate) fn bus_table<F: Field>(
+    airs: &[&Tables<F>],
+    traces: &[Traces<'_>],
+    limit: usize,
+) -> Result<Vec<usize>, Error> {
+    let airs: Vec<declared::Tables> = airs.iter().copied().map(raw_tables).collect();
+    let traces = all_raw_traces(traces);
+    numbers_of(|numbers, written, refusal, text, size| {
+        // SAFETY: what `airs` and `traces` point to is borrowed for the whole call, and `numbers` and
+        // `written` as mutable; each length is that of its slice.
+        unsafe {
+            (F::CALLS.bus_table)(
+                airs.as_ptr(),
+                airs.len(),
+                traces.as_ptr(),
+                traces.len(),
+                limit,
+                numbers.as_mut_ptr(),
+                numbers.len(),
+                written,
+                refusal,
+                text,
+                size,
+            )
+        }
+    })
+}
+
+/// The numbers of the first mismatch.
+pub(crate) fn mismatch<F: Field>(
+    airs: &[&Tables<F>],
+    traces: &[Traces<'_>],
+    limit: usize,
+) -> Result<Vec<usize>, Error> {
+    let airs: Vec<declared::Tables> = airs.iter().copied().map(raw_tables).collect();
+    let traces = all_raw_traces(traces);
+    numbers_of(|numbers, written, refusal, text, size| {
+        // SAFETY: what `airs` and `traces` point to is borrowed for the whole call, and `numbers` and
+        // `written` as mutable; each length is that of its slice.
+        unsafe {
+            (F::CALLS.mismatch)(
+                airs.as_ptr(),
+                airs.len(),
+                traces.as_ptr(),
+                traces.len(),
+                limit,
+                numbers.as_mut_ptr(),
+                numbers.len(),
+                written,
+                refusal,
+                text,
+                size,
+            )
+        }
+    })
+}
+
 /// Generates some rows of the auxiliary trace of one AIR of a planned batch, with accumulators that start
 /// at zero, and the sum of the fractions on them. The traces have the rows around these alone.
 pub(crate) fn generate_rows<F: Field>(
@@ -462,14 +576,40 @@ fn answer(mut call: impl FnMut(&mut Refusal, *mut c_char, usize) -> u32) -> Resu
     let mut text = vec![0u8; TEXT_SIZE];
     let mut code = call(&mut refusal, text.as_mut_ptr().cast(), text.len());
     if code != 0 && refusal.text_length > text.len() {
-        text.resize(refusal.text_length, 0);
+        text = copies(0, refusal.text_length)?;
         code = call(&mut refusal, text.as_mut_ptr().cast(), text.len());
     }
     if code == 0 {
         return Ok(());
     }
     text.truncate(refusal.text_length);
-    Err(Error::refused(&refusal, &text))
+    Err(Error::refused(&refusal, text))
+}
+
+/// Makes a call that writes numbers, into some room. If that is too short, it gets the length that the
+/// call asks for, and the call is made again.
+fn numbers_of(
+    mut call: impl FnMut(&mut [usize], &mut usize, &mut Refusal, *mut c_char, usize) -> u32,
+) -> Result<Vec<usize>, Error> {
+    let mut room = NUMBERS;
+    loop {
+        let mut numbers = copies(0, room)?;
+        let mut written = 0;
+        let answer =
+            answer(|refusal, text, size| call(&mut numbers, &mut written, refusal, text, size));
+        match answer {
+            Ok(()) => {
+                numbers.truncate(written);
+                return Ok(numbers);
+            }
+            Err(refusal) => match refusal.expected() {
+                Some(length) if refusal.part() == Some(Part::Numbers) && length > room => {
+                    room = length;
+                }
+                _ => return Err(refusal),
+            },
+        }
+    }
 }
 
 /// Makes a call that writes tables, into so much room. Where a table is too short, it gets the
@@ -479,7 +619,7 @@ fn written<F: Field>(
     mut call: impl FnMut(&mut Tables<F>, &mut TableSizes, &mut Refusal, *mut c_char, usize) -> u32,
 ) -> Result<Tables<F>, Error> {
     loop {
-        let mut tables = Tables::empty(room);
+        let mut tables = Tables::empty(room)?;
         let mut sizes = TableSizes::default();
         let answer =
             answer(|refusal, text, size| call(&mut tables, &mut sizes, refusal, text, size));
@@ -510,8 +650,12 @@ fn raw_tables<F: Field>(tables: &Tables<F>) -> declared::Tables {
 }
 
 fn raw_airs<F: Field>(airs: &[Planned<'_, F>]) -> Vec<declared::Air> {
-    let raw =
-        |air: &Planned<'_, F>| declared::Air { tables: raw_tables(air.tables), height: air.height };
+    let raw = |air: &Planned<'_, F>| declared::Air {
+        tables: raw_tables(air.tables),
+        height: air.height,
+        ids: air.ids.as_ptr(),
+        ids_length: air.ids.len(),
+    };
     airs.iter().map(raw).collect()
 }
 

@@ -101,6 +101,16 @@ pub(crate) struct Terminal<F> {
     pub(super) value: Element<F>,
 }
 
+/// What a witness has for one AIR.
+#[derive(Clone, Copy)]
+#[repr(C)]
+pub(super) struct AirWitness<F> {
+    pub(super) auxiliary: *const Element<F>,
+    pub(super) auxiliary_length: usize,
+    pub(super) width: usize,
+    pub(super) terminal: Terminal<F>,
+}
+
 /// What was refused, and where.
 #[derive(Clone, Copy, Debug, Default)]
 #[repr(C)]
@@ -113,6 +123,20 @@ pub(crate) struct Refusal {
     pub(crate) expected: usize,
     pub(crate) actual: usize,
     pub(crate) text_length: usize,
+}
+
+/// Why lookups do not fit traces.
+#[derive(Clone, Copy, Debug, Default)]
+#[repr(C)]
+pub(crate) struct Fit {
+    pub(crate) reason: u32,
+    pub(crate) part: u32,
+    pub(crate) lookup: usize,
+    pub(crate) row: usize,
+    pub(crate) column: usize,
+    pub(crate) width: usize,
+    pub(crate) height: usize,
+    pub(crate) preprocessed_height: usize,
 }
 
 /// How many items of each table a call has written.
@@ -131,16 +155,8 @@ pub(super) struct TableSizes {
 pub(super) struct Air {
     pub(super) tables: Tables,
     pub(super) height: usize,
-}
-
-/// What a witness has for one AIR.
-#[derive(Clone, Copy)]
-#[repr(C)]
-pub(super) struct AirWitness<F> {
-    pub(super) auxiliary: *const Element<F>,
-    pub(super) auxiliary_length: usize,
-    pub(super) width: usize,
-    pub(super) terminal: Terminal<F>,
+    pub(super) ids: *const usize,
+    pub(super) ids_length: usize,
 }
 
 /// The sizes of a plan.

@@ -1,7 +1,7 @@
 //! The functions of the header, in its order. Each field has all of them, under a prefix of its own.
 
 use super::declared::{
-    Air, AirWitness, Counts, Grid, HeightCounts, Node, PlanSizes, Record, Refusal, Rows, Span,
+    Air, AirWitness, Counts, Fit, Grid, HeightCounts, Node, PlanSizes, Record, Refusal, Rows, Span,
     TableSizes, Tables, Terminal, Traces,
 };
 use crate::element::Element;
@@ -64,8 +64,29 @@ functions! {
             text_size: usize,
         ) -> u32;
 
+        fn verify_air(
+            tables: *const Tables,
+            traces: *const Traces,
+            challenges: *const Element<F>,
+            challenges_length: usize,
+            witness: *const AirWitness<F>,
+            refusal: *mut Refusal,
+            text: *mut c_char,
+            text_size: usize,
+        ) -> u32;
+
+        fn fit_fault(
+            tables: *const Tables,
+            traces: *const Traces,
+            fit: *mut Fit,
+            refusal: *mut Refusal,
+            text: *mut c_char,
+            text_size: usize,
+        ) -> u32;
+
         fn degrees(
             tables: *const Tables,
+            transition_degree: usize,
             degrees: *mut usize,
             degrees_length: usize,
             refusal: *mut Refusal,
@@ -204,6 +225,34 @@ functions! {
             airs_length: usize,
             traces: *const Traces,
             traces_length: usize,
+            refusal: *mut Refusal,
+            text: *mut c_char,
+            text_size: usize,
+        ) -> u32;
+
+        fn bus_table(
+            airs: *const Tables,
+            airs_length: usize,
+            traces: *const Traces,
+            traces_length: usize,
+            limit: usize,
+            numbers: *mut usize,
+            numbers_length: usize,
+            written: *mut usize,
+            refusal: *mut Refusal,
+            text: *mut c_char,
+            text_size: usize,
+        ) -> u32;
+
+        fn mismatch(
+            airs: *const Tables,
+            airs_length: usize,
+            traces: *const Traces,
+            traces_length: usize,
+            limit: usize,
+            numbers: *mut usize,
+            numbers_length: usize,
+            written: *mut usize,
             refusal: *mut Refusal,
             text: *mut c_char,
             text_size: usize,

@@ -18,11 +18,11 @@ mod declared;
 mod functions;
 
 pub(crate) use calls::{
-    Planned, PlannedIds, debug_check, degrees, generate, generate_by_ids, generate_rows,
-    grid_count, pack, plan, prove, read_json, shift, soundness_count, soundness_of_heights, verify,
-    verify_rows,
+    Planned, PlannedIds, bus_table, debug_check, degrees, fit_fault, generate, generate_by_ids,
+    generate_rows, grid_count, mismatch, pack, plan, prove, read_json, shift, soundness_count,
+    soundness_of_heights, verify, verify_air, verify_rows,
 };
-pub(crate) use declared::{Node, PlanSizes, Record, Refusal, Rows, Span, Terminal, kind};
+pub(crate) use declared::{Fit, Node, PlanSizes, Record, Refusal, Rows, Span, Terminal, kind};
 pub use functions::Linked;
 
 #[cfg(all(test, target_pointer_width = "64"))]
@@ -48,7 +48,7 @@ mod tests {
         assert_eq!(layout::<Terminal<BabyBear>>(), (20, 4));
         assert_eq!(layout::<Refusal>(), (56, 8));
         assert_eq!(layout::<TableSizes>(), (32, 8));
-        assert_eq!(layout::<Air>(), (72, 8));
+        assert_eq!(layout::<Air>(), (88, 8));
         assert_eq!(layout::<AirWitness<BabyBear>>(), (48, 8));
         assert_eq!(layout::<PlanSizes>(), (16, 8));
         assert_eq!(layout::<Wide>(), (16, 8));
@@ -56,5 +56,6 @@ mod tests {
         assert_eq!(layout::<HeightCounts>(), (56, 8));
         assert_eq!(layout::<Grid>(), (40, 8));
         assert_eq!(layout::<Rows>(), (24, 8));
+        assert_eq!(layout::<Fit>(), (56, 8));
     }
 }

@@ -153,6 +153,8 @@ fn keeps_laws(air: &Air, data: &[u8]) -> Reached {
         .with_preprocessed(&preprocessed, WIDTHS[1])
         .with_public_values(&public);
 
+    finds_what_does_not_balance(air, &traces);
+    verifies_what_is_generated(air, &traces);
     match air.pack(4) {
         Ok(packed) => {
             assert!(packed.len() <= air.len());
@@ -170,6 +172,45 @@ fn keeps_laws(air: &Air, data: &[u8]) -> Reached {
             is_one_of(&refusal, &[Code::BusWidths, Code::TupleWidths, Code::HeightBound]);
             Reached::Lookups
         }
+    }
+}
+
+/// The laws of what is found: the table and the mismatch say what the debug check says.
+fn finds_what_does_not_balance(air: &Air, traces: &Traces<'_>) {
+    let (airs, traces) = (std::slice::from_ref(air), [*traces]);
+    let table = volgwain::bus_table(airs, &traces, 2);
+    let found = volgwain::mismatch(airs, &traces, usize::MAX);
+    match volgwain::debug_check(airs, &traces) {
+        Err(refusal) if refusal.code() != Code::Mismatch => {
+            assert_eq!(table.as_ref(), Err(&refusal));
+            assert_eq!(found, Err(refusal));
+        }
+        verdict => {
+            let (table, found) = (table.expect("a table"), found.expect("what is found"));
+            let text = verdict.err().map(|refusal| refusal.to_string());
+            assert_eq!(table.iter().any(|group| group.unbalanced > 0), text.is_some());
+            assert_eq!(found.map(|mismatch| mismatch.to_string()), text);
+            for group in &table {
+                assert_eq!(group.first.len(), group.unbalanced.min(2));
+                assert!(group.first.iter().all(|it| it.net != 0 && it.places.len() <= 2));
+            }
+        }
+    }
+}
+
+/// The laws of challenges of one's own: lookups that do not fit are refused, and what is generated is
+/// satisfied.
+fn verifies_what_is_generated(air: &Air, traces: &Traces<'_>) {
+    let challenge = |at: u32| [Element::new([9, 2, 6, 5 + at]), Element::new([3, 1, at, 15])];
+    let own: Vec<[Element; 2]> = (0..).map(challenge).take(air.len()).collect();
+    let fault = air.fit_fault(traces).expect("cells make rows");
+    match air.generate(traces, &own) {
+        Ok(witness) => {
+            let part = witness.air(0).expect("it has one part");
+            assert_eq!(air.verify(traces, &own, &part), Ok(()));
+            assert_eq!(fault, None);
+        }
+        Err(refusal) => assert_eq!(fault.is_some(), refusal.code() == Code::DoesNotFit),
     }
 }
 

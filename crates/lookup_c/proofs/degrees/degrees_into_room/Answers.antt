@@ -16,7 +16,7 @@ returns-in_err-degrees g c = rw (refused_is c.from_residual-in_err-degrees.resul
 pub returns-then-len-room : goal.returns-then-len-room
 returns-then-len-room g c =
     let lookups = lookups_of c.in_ok-set.set in
-    let long : length c.in_ok-degrees.degrees.items ≡ length lookups = ap length c.in_ok-degrees.ensures ∙ length-map lookups (lookup_degree 0) in
+    let long : length c.in_ok-degrees.degrees.items ≡ length lookups = ap length c.in_ok-degrees.ensures ∙ length-map lookups (lookup_degree c.args.transition_degree) in
     let also : c.len-then-len-room.result ≡ length lookups = omega (arith, long, c.len-then-len-room.ensures) in
     inr (
       lookups,

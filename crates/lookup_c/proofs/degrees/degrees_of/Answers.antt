@@ -10,16 +10,16 @@ use Rattle.lookup_c.specs.declared.fault.Fault.TheVariants.{Lookup as OfLookup}
 use Rattle.lookup_c.proofs.degrees.degrees_of.Goals as goal
 
 -- a degree that does not fit is that of one of the lookups
-degree_refused : {F : Type 0} (lookups : List (Lookup F)) (i : ℕ) (d : Lookup F) (e : LookupError) → i < length lookups → d ≡ get_or lookups i d → e ≡ DegreeOverflow → 2 ^ 64 ≤ lookup_degree 0 d → IsLargeDegreesRefusal lookups (OfLookup 0 e)
-degree_refused {F} lookups i d e there is over large = inr (
+degree_refused : {F : Type 0} (transition_degree : ℕ) (lookups : List (Lookup F)) (i : ℕ) (d : Lookup F) (e : LookupError) → i < length lookups → d ≡ get_or lookups i d → e ≡ DegreeOverflow → 2 ^ 64 ≤ lookup_degree transition_degree d → IsLargeDegreesRefusal transition_degree lookups (OfLookup 0 e)
+degree_refused {F} transition_degree lookups i d e there is over large = inr (
   i,
   get_or lookups i d,
   slice_get-get_or lookups i d there,
-  subst (λ (l : Lookup F). 2 ^ 64 ≤ lookup_degree 0 l) is large,
+  subst (λ (l : Lookup F). 2 ^ 64 ≤ lookup_degree transition_degree l) is large,
   ap (OfLookup 0) over,
 )
 
 pub returns-in-Err : goal.returns-in-Err
 returns-in-Err g c =
-    subst (λ (ls : List (Lookup (Residue g.row.P))). IsLargeDegreesRefusal ls (OfLookup 0 c.in-Err.error)) c.as_slice-lookups.ensures.lookups
-    (degree_refused c.as_slice-lookups.result.now c.loop-lookup.lookup-index c.lookup-item.result c.in-Err.error c.loop-lookup-test.true c.lookup-item.is c.in-Err.ensures.0 c.in-Err.ensures.1)
+    subst (λ (ls : List (Lookup (Residue g.row.P))). IsLargeDegreesRefusal c.args.transition_degree ls (OfLookup 0 c.in-Err.error)) c.as_slice-lookups.ensures.lookups
+    (degree_refused c.args.transition_degree c.as_slice-lookups.result.now c.loop-lookup.lookup-index c.lookup-item.result c.in-Err.error c.loop-lookup-test.true c.lookup-item.is c.in-Err.ensures.0 c.in-Err.ensures.1)

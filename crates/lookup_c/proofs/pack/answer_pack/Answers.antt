@@ -1,10 +1,25 @@
-use Rattle.std.proofs.Common.{arith, refl, subst}
-use Rattle.lookup_c.specs.WrittenTables.{HasTableRoom, sizes_of_written}
+use Rattle.std.proofs.Common.{arith, inl, inr, refl, subst}
+use Rattle.lookup.specs.Lookups.{lookups_of}
+use Rattle.lookup_c.specs.WrittenTables.{HasTableRoom, IsTableWritingRefusal, sizes_of_written}
+use Rattle.lookup_c.specs.declared.written_tables.TableSizes.{TableSizes}
 use Rattle.lookup_c.proofs.AnswerLaws.{refused_is}
 use Rattle.lookup_c.proofs.pack.answer_pack.Goals as goal
 
 pub returns-in_err-made-clause-answers : goal.returns-in_err-made-clause-answers
-returns-in_err-made-clause-answers g c = rw (refused_is c.from_residual.result c.from_residual.ensures.1) (rw (← c.room_of-room.ensures) c.in_err-made.ensures)
+returns-in_err-made-clause-answers g c =
+    let fault = c.in_err-made.field-0.0 in
+    rw (refused_is c.from_residual.result c.from_residual.ensures.1)
+    (elim c.in_err-made.ensures [
+      | inl tables ↦ inl tables
+      | inr packing ↦ inr (
+        packing.0,
+        packing.1,
+        elim packing.2 [
+          | inl refused ↦ inl refused
+          | inr full ↦ inr (full.0, full.1, subst (λ (room : TableSizes). IsTableWritingRefusal (lookups_of full.0) room fault) c.room_of-room.ensures full.2)
+        ],
+      )
+    ])
 
 pub returns-in_err-made-clause-kept : goal.returns-in_err-made-clause-kept
 returns-in_err-made-clause-kept g c = rw (refused_is c.from_residual.result c.from_residual.ensures.1) (refl, refl, refl, refl)

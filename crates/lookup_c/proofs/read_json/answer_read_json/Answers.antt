@@ -1,10 +1,12 @@
 use Rattle.std.proofs.Common.{arith, refl, subst}
+use Rattle.lookup_c.specs.ReadJson.{IsReadJsonRefusal}
 use Rattle.lookup_c.specs.WrittenTables.{HasTableRoom, sizes_of_written}
+use Rattle.lookup_c.specs.declared.written_tables.TableSizes.{TableSizes}
 use Rattle.lookup_c.proofs.AnswerLaws.{refused_is}
 use Rattle.lookup_c.proofs.read_json.answer_read_json.Goals as goal
 
 pub returns-in_err-made-clause-answers : goal.returns-in_err-made-clause-answers
-returns-in_err-made-clause-answers g c = rw (refused_is c.from_residual.result c.from_residual.ensures.1) (rw (← c.room_of-room.ensures) c.in_err-made.ensures)
+returns-in_err-made-clause-answers g c = rw (refused_is c.from_residual.result c.from_residual.ensures.1) (subst (λ (room : TableSizes). IsReadJsonRefusal g.row.P c.args.json.now room c.in_err-made.field-0.0) c.room_of-room.ensures c.in_err-made.ensures)
 
 pub returns-in_err-made-clause-kept : goal.returns-in_err-made-clause-kept
 returns-in_err-made-clause-kept g c = rw (refused_is c.from_residual.result c.from_residual.ensures.1) (refl, refl, refl, refl)
