@@ -1,2 +1,3 @@
 pub mod MessageLaws
 pub mod ScopeLaws
+pub mod ValueLaws

@@ -1,5 +1,5 @@
 -- Values over columns by their numbers, without the addresses of their boxes.
-use Rattle.std.specs.Prelude.{ℕ, zero, suc}
+use Rattle.std.specs.Prelude.{◌+◌, ℕ, zero, suc}
 use Rattle.lookup_names.specs.declared.value.Value.{Value, Main, Preprocessed, Public, FirstRow, LastRow, Transition, Number, Negative', Sum', Difference', Product'}
 
 -- an expression over cells, public values, selectors and numbers; of a cell the row, 0 or 1, and the column
@@ -34,3 +34,17 @@ meant_of (Product' p v q w) = product (meant_of v) (meant_of w)
 abbrev pub powers : ℕ → Meant → Meant
 powers zero m = m
 powers (suc n) m = product (powers n m) m
+
+-- how many nodes a value has
+abbrev pub size_of : Meant → ℕ
+size_of (main offset column) = 1
+size_of (preprocessed offset column) = 1
+size_of (public index) = 1
+size_of first_row = 1
+size_of last_row = 1
+size_of transition = 1
+size_of (number n) = 1
+size_of (negative m) = size_of m + 1
+size_of (sum m n) = size_of m + size_of n + 1
+size_of (difference m n) = size_of m + size_of n + 1
+size_of (product m n) = size_of m + size_of n + 1

@@ -13,6 +13,9 @@ pub enum NameWhy {
     UnknownColumn,
     /// How often a message counts depends on the row, and the most is not said.
     NoWeight,
+    /// An expression has more than 65,536 nodes, where each name stands for its value and a power
+    /// for its factors.
+    LargeExpression,
 }
 
 /// The byte of a text at which something is wrong, and what it is.

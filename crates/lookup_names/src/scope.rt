@@ -1,15 +1,15 @@
 //! What names stand for, and what expressions mean with them.
-ghost use Rattle.std.specs.Prelude.{◌≡◌, map, option_map, position};
+ghost use Rattle.std.specs.Prelude.{◌≡◌, ◌-◌, map, option_map, position};
 ghost use Rattle.std.specs.Str.{bytes_eq};
 ghost use Rattle.lookup_text.specs.Formulas.{formula_of};
 ghost use Rattle.lookup_names.specs.Faults.{Gives};
-ghost use Rattle.lookup_names.specs.Scopes.{bytes_in, cell_of, defined_of, definition, fixed_name, meaning, named, names_of, next_named, place_of, selector_of};
-ghost use Rattle.lookup_names.specs.Values.{meant_of};
+ghost use Rattle.lookup_names.specs.Scopes.{bytes_in, cell_of, defined_of, definition, fixed_name, front_of, in_room, meaning, meaning_in, named_in, names_of, next_named, place_of, placed, selector_of};
+ghost use Rattle.lookup_names.specs.Values.{meant_of, powers};
 
 use crate::fault::{NameFault, NameRefusal, NameWhy};
-use crate::value::{Value, copy_of, power_of};
+use crate::value::{Value, copy_of, power_of, room_after, room_after_power};
 use lookup_text::{Span, Tree};
-use std::alloc::{AllocError, Global};
+use std::alloc::Global;
 
 /// A name with the value that it stands for.
 #[derive(Debug, Drop)]
@@ -32,57 +32,152 @@ pub struct Scope<'a> {
     pub defined: &'a [Defined],
 }
 
+/// How many nodes the value of an expression may have.
+const MAX_NODES: usize = 65_536;
+
 /// What an expression means: each name is the value that it stands for, and that of the next row
 /// the cell there.
 ///
-/// Refuses the first name that stands for nothing.
+/// Refuses the first name that stands for nothing, or what comes first with more than 65,536 nodes
+/// so far: a name or a number, or a power at the first name or number in it. The nodes are counted
+/// before anything is copied.
 pub fn value_of(alloc: Global, scope: &Scope<'_>, tree: &Tree) -> Result<Value, NameFault>
     ensures { Gives meant_of result (meaning (names_of scope.now) (formula_of tree.now)) }
 {
+    let (value, _) = value_in(alloc, scope, tree, MAX_NODES)?;
+    Ok(value)
+}
+
+/// What an expression means, and how much room it leaves.
+fn value_in(
+    alloc: Global,
+    scope: &Scope<'_>,
+    tree: &Tree,
+    room: usize,
+) -> Result<(Value, usize), NameFault>
+    ensures { Gives in_room result (meaning_in (names_of scope.now) (formula_of tree.now) room) }
+{
+    let inner = room.saturating_sub(1);
     match tree {
-        Tree::Name(span) => named_value(alloc, scope, *span),
-        Tree::Next(span) => next_value(scope, *span),
-        Tree::Number(number, _) => Ok(Value::Number(*number)),
-        Tree::Negative(inner) => {
-            let inner = value_of(alloc, scope, inner)?;
-            Ok(Value::Negative(Box::new(alloc, inner)?))
+        Tree::Name(span) => named_value(alloc, scope, *span, room),
+        Tree::Next(span) => within(next_value(scope, *span)?, span.start, room),
+        Tree::Number(number, span) => within(Value::Number(*number), span.start, room),
+        Tree::Negative(value) => {
+            let (value, room) = value_in(alloc, scope, value, inner)?;
+            Ok((Value::Negative(Box::new(alloc, value)?), room))
         }
         Tree::Sum(left, right) => {
-            let left = value_of(alloc, scope, left)?;
-            let right = value_of(alloc, scope, right)?;
-            Ok(Value::Sum(Box::new(alloc, left)?, Box::new(alloc, right)?))
+            let (left, room) = value_in(alloc, scope, left, inner)?;
+            let (right, room) = value_in(alloc, scope, right, room)?;
+            Ok((
+                Value::Sum(Box::new(alloc, left)?, Box::new(alloc, right)?),
+                room,
+            ))
         }
         Tree::Difference(left, right) => {
-            let left = value_of(alloc, scope, left)?;
-            let right = value_of(alloc, scope, right)?;
-            Ok(Value::Difference(Box::new(alloc, left)?, Box::new(alloc, right)?))
+            let (left, room) = value_in(alloc, scope, left, inner)?;
+            let (right, room) = value_in(alloc, scope, right, room)?;
+            Ok((
+                Value::Difference(Box::new(alloc, left)?, Box::new(alloc, right)?),
+                room,
+            ))
         }
         Tree::Product(left, right) => {
-            let left = value_of(alloc, scope, left)?;
-            let right = value_of(alloc, scope, right)?;
-            Ok(Value::Product(Box::new(alloc, left)?, Box::new(alloc, right)?))
+            let (left, room) = value_in(alloc, scope, left, inner)?;
+            let (right, room) = value_in(alloc, scope, right, room)?;
+            Ok((
+                Value::Product(Box::new(alloc, left)?, Box::new(alloc, right)?),
+                room,
+            ))
         }
         Tree::Power(base, exponent) => {
-            let base = value_of(alloc, scope, base)?;
-            Ok(power_of(alloc, &base, *exponent)?)
+            let (value, _) = value_in(alloc, scope, base, room)?;
+            power_within(alloc, &value, *exponent, front_of(base), room)
         }
     }
 }
 
-/// The value that a name stands for.
+/// Where the first name or number of an expression begins.
+fn front_of(tree: &Tree) -> usize
+    ensures { result ≡ front_of (formula_of tree.now) }
+{
+    match tree {
+        Tree::Name(span) | Tree::Next(span) | Tree::Number(_, span) => span.start,
+        Tree::Negative(inner) => front_of(inner),
+        Tree::Sum(left, _) | Tree::Difference(left, _) | Tree::Product(left, _) => front_of(left),
+        Tree::Power(base, _) => front_of(base),
+    }
+}
+
+/// A value with the room that it leaves, if there is room for it.
+fn within(value: Value, at: usize, room: usize) -> Result<(Value, usize), NameFault>
+    ensures { Gives in_room result (placed at room (meant_of value)) }
+{
+    match room_after(&value, room) {
+        Some(left) => Ok((value, left)),
+        None => Err(too_large(at)),
+    }
+}
+
+/// A copy of a value with the room that it leaves, if there is room for it.
+fn copy_within(
+    alloc: Global,
+    value: &Value,
+    at: usize,
+    room: usize,
+) -> Result<(Value, usize), NameFault>
+    ensures { Gives in_room result (placed at room (meant_of value.now)) }
+{
+    match room_after(value, room) {
+        Some(left) => Ok((copy_of(alloc, value)?, left)),
+        None => Err(too_large(at)),
+    }
+}
+
+/// A power with the room that it leaves, if there is room for it.
+fn power_within(
+    alloc: Global,
+    base: &Value,
+    exponent: u64,
+    at: usize,
+    room: usize,
+) -> Result<(Value, usize), NameFault>
+    ensures { Gives in_room result (placed at room (powers (exponent - 1) (meant_of base.now))) }
+{
+    match room_after_power(base, exponent, room) {
+        Some(left) => Ok((power_of(alloc, base, exponent)?, left)),
+        None => Err(too_large(at)),
+    }
+}
+
+fn too_large(at: usize) -> NameFault
+    ensures { result ≡ NameFault.Refused (record { at = at; why = NameWhy.LargeExpression }) }
+{
+    NameFault::Refused(NameRefusal {
+        at,
+        why: NameWhy::LargeExpression,
+    })
+}
+
+/// The value that a name stands for, and how much room it leaves.
 #[tactic(auto, unfolding(crate::specs::Scopes::named))]
-fn named_value(alloc: Global, scope: &Scope<'_>, span: Span) -> Result<Value, NameFault>
-    ensures { Gives meant_of result (named (names_of scope.now) span) }
+fn named_value(
+    alloc: Global,
+    scope: &Scope<'_>,
+    span: Span,
+    room: usize,
+) -> Result<(Value, usize), NameFault>
+    ensures { Gives in_room result (named_in (names_of scope.now) span room) }
 {
     let name = bytes_of(scope.text, span);
-    if let Some(value) = defined_value(alloc, scope.defined, name)? {
-        return Ok(value);
+    if let Some(value) = defined_value(scope.defined, name) {
+        return copy_within(alloc, value, span.start, room);
     }
     if let Some(value) = selector(name) {
-        return Ok(value);
+        return within(value, span.start, room);
     }
     match cell(scope, name, 0) {
-        Some(value) => Ok(value),
+        Some(value) => within(value, span.start, room),
         None => Err(NameFault::Refused(NameRefusal {
             at: span.start,
             why: NameWhy::UnknownName,
@@ -118,20 +213,16 @@ fn bytes_of(text: &[u8], span: Span) -> &[u8]
 }
 
 /// The value of the first definition of a name.
-fn defined_value(
-    alloc: Global,
-    defined: &[Defined],
-    name: &[u8],
-) -> Result<Option<Value>, NameFault>
-    ensures { Gives (option_map meant_of) result
-        (Ok (definition name.now (map defined_of defined.now))) }
+fn defined_value<'a>(defined: &'a [Defined], name: &[u8]) -> Option<&'a Value>
+    ensures { option_map (λ v. meant_of v.now) result
+        ≡ definition name.now (map defined_of defined.now) }
 {
     for item in defined {
         if item.name.as_slice() == name {
-            return Ok(Some(copy_of(alloc, &item.value)?));
+            return Some(&item.value);
         }
     }
-    Ok(None)
+    None
 }
 
 /// The selector of this name.

@@ -1,6 +1,6 @@
 //! Values over columns by their numbers.
-ghost use Rattle.std.specs.Prelude.{◌≡◌, ◌-◌, IfOk};
-ghost use Rattle.lookup_names.specs.Values.{meant_of, powers};
+ghost use Rattle.std.specs.Prelude.{◌≡◌, ◌-◌, ◌+◌, ◌<◌, ◌≤◌, IfOk, MatchOption};
+ghost use Rattle.lookup_names.specs.Values.{meant_of, powers, size_of};
 
 use std::alloc::{AllocError, Global};
 
@@ -75,4 +75,33 @@ pub(crate) fn power_of(alloc: Global, base: &Value, exponent: u64) -> Result<Val
         product = Value::Product(Box::new(alloc, product)?, Box::new(alloc, factor)?);
     }
     Ok(product)
+}
+
+/// How much room a value leaves, of room for so many nodes; `None` where it has more nodes.
+#[tactic(auto, using(crate::proofs::ValueLaws::size_of_positive))]
+pub(crate) fn room_after(value: &Value, room: usize) -> Option<usize>
+    ensures { MatchOption result (room < size_of (meant_of value.now))
+        (λ left. left + size_of (meant_of value.now) ≡ room) }
+{
+    let inner = room.checked_sub(1)?;
+    match value {
+        Value::Negative(value) => room_after(value, inner),
+        Value::Sum(left, right) | Value::Difference(left, right) | Value::Product(left, right) =>
+            room_after(right, room_after(left, inner)?),
+        _ => Some(inner),
+    }
+}
+
+/// How much room a power leaves, of room for so many nodes; `None` where it has more nodes. The
+/// power is not made.
+#[tactic(auto, using(crate::proofs::ValueLaws::size_of_powers))]
+pub(crate) fn room_after_power(base: &Value, exponent: u64, room: usize) -> Option<usize>
+    ensures { let power = powers (exponent - 1) (meant_of base.now) in
+        MatchOption result (room < size_of power) (λ left. left + size_of power ≡ room) }
+{
+    let size = room - room_after(base, room)?;
+    let further = exponent.saturating_sub(1) as usize;
+    let copies = further.checked_mul(size)?;
+    let nodes = copies.checked_add(further)?.checked_add(size)?;
+    room.checked_sub(nodes)
 }

@@ -132,6 +132,25 @@ fn expressions(rt: HostRuntime) {
     );
 }
 
+#[test]
+fn sizes(rt: HostRuntime) {
+    let alloc = rt.alloc();
+    let power = b"((a^64)^64)^64";
+    holds(
+        &rt,
+        "a power",
+        unknown(alloc, power, 2, NameWhy::LargeExpression),
+    );
+    let sum =
+        b"--((a^64)^64+(a^64)^64+(a^64)^64+(a^64)^64+(a^64)^64+(a^64)^64+(a^64)^64+(a^64)^64)";
+    holds(&rt, "65,536 nodes", means(alloc, &sum[1..], 0));
+    holds(
+        &rt,
+        "one more",
+        unknown(alloc, sum, 74, NameWhy::LargeExpression),
+    );
+}
+
 /// The first message of a text.
 fn first_message(section: &SectionText) -> Option<&MessageText> {
     match section {
