@@ -1,3 +1,5 @@
+pub mod BusLaws
+pub mod LookupLaws
 pub mod MessageLaws
 pub mod ScopeLaws
 pub mod ValueLaws

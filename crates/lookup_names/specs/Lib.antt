@@ -1,4 +1,6 @@
+pub mod Buses
 pub mod Faults
+pub mod Lookups
 pub mod Messages
 pub mod Scopes
 pub mod Values

@@ -16,6 +16,20 @@ pub enum NameWhy {
     /// An expression has more than 65,536 nodes, where each name stands for its value and a power
     /// for its factors.
     LargeExpression,
+    /// A name has a definition before this one.
+    RepeatedDefinition,
+    /// A bus was declared before with this name.
+    RepeatedBus,
+    /// No bus is declared with this name, and others are.
+    UndeclaredBus,
+    /// A tuple has another number of values than its bus declares.
+    TupleWidth,
+    /// A message of a group is on another bus than the first.
+    OtherBus,
+    /// A group has no message.
+    EmptyGroup,
+    /// Lookups from a file are not read.
+    LookupsFile,
 }
 
 /// The byte of a text at which something is wrong, and what it is.

@@ -202,7 +202,7 @@ fn next_value(scope: &Scope<'_>, span: Span) -> Result<Value, NameFault>
 }
 
 /// The bytes of a span, none where it is not within the text.
-fn bytes_of(text: &[u8], span: Span) -> &[u8]
+pub(crate) fn bytes_of(text: &[u8], span: Span) -> &[u8]
     ensures { result.now ≡ bytes_in span text.now }
 {
     if span.start <= span.end && span.end <= text.len() {
@@ -213,7 +213,7 @@ fn bytes_of(text: &[u8], span: Span) -> &[u8]
 }
 
 /// The value of the first definition of a name.
-fn defined_value<'a>(defined: &'a [Defined], name: &[u8]) -> Option<&'a Value>
+pub(crate) fn defined_value<'a>(defined: &'a [Defined], name: &[u8]) -> Option<&'a Value>
     ensures { option_map (λ v. meant_of v.now) result
         ≡ definition name.now (map defined_of defined.now) }
 {

@@ -2,6 +2,7 @@
 mod batches;
 mod examples;
 mod formulas;
+mod lookups;
 mod names;
 mod show;
 mod tables;

@@ -8,7 +8,7 @@ use std::alloc::{AllocError, Global};
 
 /// A number for a value: a cell is 1,000 or 2,000 with its row as hundreds and its column, a public
 /// value 3,000 with its number, and the selectors are 4,000 to 4,002.
-fn number(value: &Value) -> u64 {
+pub fn number(value: &Value) -> u64 {
     match value {
         Value::Main { offset, column } => cell(1000, *offset, *column),
         Value::Preprocessed { offset, column } => cell(2000, *offset, *column),

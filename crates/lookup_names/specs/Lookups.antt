@@ -1,0 +1,158 @@
+-- The lookups of an AIR: what its items say, over columns by their numbers.
+use Rattle.std.specs.Prelude.{◌+◌, ◌++◌, ℕ, Bool, true, false, List, [], ◌∷◌, Option, Some, None, Result, Ok, is_some, length, map, option_map, if◌then◌else◌}
+use Rattle.std.specs.declared.alloc.Global.{Global}
+use Rattle.std.specs.declared.vec.Vec.{Vec}
+use Rattle.lookup_text.specs.declared.token.Span.{Span}
+use Rattle.lookup_text.specs.Batches.{Section}
+use Rattle.lookup_text.specs.Formulas.{Formula}
+use Rattle.lookup_text.specs.Items.{Item, Part, Placed}
+use Rattle.lookup_text.specs.Items as items
+use Rattle.lookup_text.specs.Messages.{Message}
+use Rattle.lookup_names.specs.declared.air.Added.{Added}
+use Rattle.lookup_names.specs.declared.air.Added.TheVariants as added
+use Rattle.lookup_names.specs.declared.air.NamedAir.{NamedAir}
+use Rattle.lookup_names.specs.declared.air.NamedLookup.{NamedLookup}
+use Rattle.lookup_names.specs.declared.air.NamedPart.{NamedPart}
+use Rattle.lookup_names.specs.declared.fault.NameRefusal.{NameRefusal}
+use Rattle.lookup_names.specs.declared.fault.NameWhy.TheVariants.{EmptyGroup, LookupsFile, OtherBus, RepeatedDefinition}
+use Rattle.lookup_names.specs.Buses.{bus_checked, buses_of, same_bus}
+use Rattle.lookup_names.specs.Faults.{◌>>=◌, refused}
+use Rattle.lookup_names.specs.Messages.{Sent, sent, sent_of}
+use Rattle.lookup_names.specs.Scopes.{Names, bytes_in, defined_of, definition, meaning}
+use Rattle.lookup_names.specs.Values.{Meant, meant_of}
+use Rattle.lookup_names.specs.Values as values
+
+-- a message of a lookup, in an exclusive lookup with its flag
+pub record SentPart : Type 0 where
+  pub flag : Option Meant
+  pub message : Sent
+
+-- a message of a lookup, without where it lies in memory
+abbrev pub part_of : NamedPart → SentPart
+part_of p = record { flag = option_map meant_of p.flag; message = sent_of p.message }
+
+-- messages in one column: where they begin, on which bus, and whether at most one counts on a row
+pub record Column : Type 0 where
+  pub at : ℕ
+  pub bus : Option Span
+  pub exclusive : Bool
+  pub parts : List SentPart
+
+-- a lookup, without where it lies in memory
+abbrev pub column_of : NamedLookup → Column
+column_of l = record { at = l.at; bus = l.bus; exclusive = l.exclusive; parts = map part_of l.parts.items }
+
+-- the names of columns before any definition
+abbrev pub names_for : List ℕ → List (Vec ℕ Global) → List (Vec ℕ Global) → Names
+names_for text columns fixed = record { text = text; columns = map (λ column. column.items) columns; preprocessed = map (λ column. column.items) fixed; defined = [] }
+
+-- names with one more definition, after those before it
+abbrev pub with_definition : Names → List ℕ × Meant → Names
+with_definition names d = record { text = names.text; columns = names.columns; preprocessed = names.preprocessed; defined = names.defined ++ d ∷ [] }
+
+-- a name that has no definition yet
+abbrev pub new_name : Names → Span → Result (Unit {0}) NameRefusal
+new_name names s = if is_some (definition (bytes_in s names.text) names.defined) then refused RepeatedDefinition s.start else Ok tt
+
+-- what a message sends, on a bus that takes it
+abbrev pub message_on : List Section → Names → Message → Result Sent NameRefusal
+message_on sections names m = bus_checked names.text (buses_of sections) m.bus (length m.tuple) >>= λ _. sent names m
+
+-- what the flag of a message means, if it has one
+abbrev pub flag_meant : Names → Option Formula → Result (Option Meant) NameRefusal
+flag_meant names None = Ok None
+flag_meant names (Some f) = meaning names f >>= λ m. Ok (Some m)
+
+-- a message is on the bus of its group
+abbrev pub bus_kept : Names → Option Span → Message → Result (Unit {0}) NameRefusal
+bus_kept names bus m = if same_bus names.text bus m.bus then Ok tt else refused OtherBus m.at
+
+-- a message of a group on this bus
+unfoldable pub part_on : List Section → Names → Option Span → Part → Result SentPart NameRefusal
+part_on sections names bus p = do
+  flag ← flag_meant names p.flag
+  kept ← bus_kept names bus p.message
+  message ← message_on sections names p.message
+  Ok (record { flag = flag; message = message })
+
+-- the messages of a group on this bus
+abbrev pub parts_on : List Section → Names → Option Span → List Part → Result (List SentPart) NameRefusal
+parts_on sections names bus [] = Ok []
+parts_on sections names bus (p ∷ ps) = part_on sections names bus p >>= λ x. parts_on sections names bus ps >>= λ xs. Ok (x ∷ xs)
+
+-- the lookup of a message alone
+unfoldable pub column_alone : List Section → Names → Message → Result Column NameRefusal
+column_alone sections names m = message_on sections names m >>= λ x. Ok (record { at = m.at; bus = m.bus; exclusive = false; parts = record { flag = None; message = x } ∷ [] })
+
+-- the lookup of a group, on the bus of its first message
+unfoldable pub column_together : List Section → Names → ℕ → Bool → List Part → Result Column NameRefusal
+column_together sections names at exclusive [] = refused EmptyGroup at
+column_together sections names at exclusive (p ∷ ps) = parts_on sections names p.message.bus (p ∷ ps) >>= λ xs. Ok (record { at = at; bus = p.message.bus; exclusive = exclusive; parts = xs })
+
+-- what an item adds: nothing, a definition, a public value with its definition, or a lookup
+pub data Addition : Type 0 where
+  nothing : Addition
+  defines : List ℕ × Meant → Addition
+  publishes : List ℕ × Meant → ℕ → Addition
+  sends : Column → Addition
+
+-- what an item adds, without where it lies in memory
+abbrev pub addition_of : Added → Addition
+addition_of added.Nothing = nothing
+addition_of (added.Definition d) = defines (defined_of d)
+addition_of (added.Public d n) = publishes (defined_of d) n
+addition_of (added.Lookup l) = sends (column_of l)
+
+-- what an item that begins here adds, after so many public values
+unfoldable pub addition_at : List Section → Names → ℕ → ℕ → Item → Result Addition NameRefusal
+addition_at sections names publics at (items.trace s) = Ok nothing
+addition_at sections names publics at (items.preprocessed s) = Ok nothing
+addition_at sections names publics at (items.lookups s) = refused LookupsFile at
+addition_at sections names publics at (items.height n) = Ok nothing
+addition_at sections names publics at (items.columns ss) = Ok nothing
+addition_at sections names publics at (items.public s n) = new_name names s >>= λ _. Ok (publishes (bytes_in s names.text, values.public publics) n)
+addition_at sections names publics at (items.letting s f) = new_name names s >>= λ _. meaning names f >>= λ m. Ok (defines (bytes_in s names.text, m))
+addition_at sections names publics at (items.message m) = column_alone sections names m >>= λ c. Ok (sends c)
+addition_at sections names publics at (items.together ps) = column_together sections names at false ps >>= λ c. Ok (sends c)
+addition_at sections names publics at (items.exclusive ps) = column_together sections names at true ps >>= λ c. Ok (sends c)
+
+-- what an item adds, after so many public values
+abbrev pub addition : List Section → Names → ℕ → Placed → Result Addition NameRefusal
+addition sections names publics p = addition_at sections names publics p.at p.item
+
+-- the lookups and the public values of an AIR
+pub record Said : Type 0 where
+  pub columns : List Column
+  pub public_values : List ℕ
+
+-- what an AIR says, without where it lies in memory
+abbrev pub said_of : NamedAir → Said
+said_of a = record { columns = map column_of a.lookups.items; public_values = a.public_values.items }
+
+-- nothing said
+abbrev pub silence : Said
+silence = record { columns = []; public_values = [] }
+
+-- what is said with an addition before it
+abbrev pub said_after : Addition → Said → Said
+said_after nothing said = said
+said_after (defines d) said = said
+said_after (publishes d n) said = record { columns = said.columns; public_values = n ∷ said.public_values }
+said_after (sends c) said = record { columns = c ∷ said.columns; public_values = said.public_values }
+
+-- names after an addition
+abbrev pub names_after : Addition → Names → Names
+names_after nothing names = names
+names_after (defines d) names = with_definition names d
+names_after (publishes d n) names = with_definition names d
+names_after (sends c) names = names
+
+-- how many public values there are after an addition
+abbrev pub publics_after : Addition → ℕ → ℕ
+publics_after (publishes d n) publics = publics + 1
+publics_after a publics = publics
+
+-- What items say: each adds to what is known in the items after it. They are read after so many public values.
+abbrev pub said_by_items : List Section → Names → ℕ → List Placed → Result Said NameRefusal
+said_by_items sections names publics [] = Ok silence
+said_by_items sections names publics (p ∷ ps) = addition sections names publics p >>= λ a. said_by_items sections (names_after a names) (publics_after a publics) ps >>= λ said. Ok (said_after a said)

@@ -1,0 +1,301 @@
+//! The lookups of an AIR.
+ghost use Rattle.std.specs.Prelude.{◌≡◌, Ok, map, option_map};
+ghost use Rattle.lookup_text.specs.Batches.{section_of};
+ghost use Rattle.lookup_text.specs.Formulas.{formula_of};
+ghost use Rattle.lookup_text.specs.Items.{part_of as said_part, placed_of};
+ghost use Rattle.lookup_text.specs.Messages.{message_of as said_by};
+ghost use Rattle.lookup_names.specs.Faults.{Gives};
+ghost use Rattle.lookup_names.specs.Lookups.{addition, addition_of, bus_kept, column_alone, column_of, column_together, flag_meant, message_on, names_for, new_name, part_of, part_on, parts_on, said_by_items, said_of};
+ghost use Rattle.lookup_names.specs.Messages.{sent_of};
+ghost use Rattle.lookup_names.specs.Scopes.{bytes_in, defined_of, names_of};
+ghost use Rattle.lookup_names.specs.Values.{meant_of};
+
+use crate::bus::{check_bus, same_bus};
+use crate::fault::{NameFault, NameRefusal, NameWhy};
+use crate::message::{NamedMessage, named_message};
+use crate::scope::{Defined, Scope, bytes_of, defined_value, value_of};
+use crate::value::Value;
+use lookup_text::{
+    AirText, BatchText, ItemText, MessageText, PartText, PlacedItem, SectionText, Span, Tree,
+};
+use std::alloc::Global;
+
+/// A message of a lookup, in an exclusive lookup with its flag.
+#[derive(Debug, Drop)]
+pub struct NamedPart {
+    pub flag: Option<Value>,
+    pub message: NamedMessage,
+}
+
+/// Messages in one column of fractions.
+#[derive(Debug, Drop)]
+pub struct NamedLookup {
+    /// The byte at which it begins.
+    pub at: usize,
+    /// The name of the bus that all its messages are on, or `None` for a bus of its own.
+    pub bus: Option<Span>,
+    /// Whether at most one of its messages counts on a row: that whose flag is set.
+    pub exclusive: bool,
+    /// The messages, at least one.
+    pub parts: Vec<NamedPart>,
+}
+
+/// The lookups of an AIR and its public values, in their order.
+#[derive(Debug, Drop)]
+pub struct NamedAir {
+    pub lookups: Vec<NamedLookup>,
+    pub public_values: Vec<u64>,
+}
+
+/// What an item adds to the lookups and names before it.
+#[derive(Debug, Drop)]
+enum Added {
+    Nothing,
+    Definition(Defined),
+    Public(Defined, u64),
+    Lookup(NamedLookup),
+}
+
+/// The lookups of an AIR over these columns of its main and its preprocessed trace, and its public
+/// values. A definition or a public value stands for its name in all later items.
+///
+/// Refuses the first fault from left to right: those of `value_of` and `named_message`; a name that
+/// is defined twice; a bus that is not declared, where the text declares one; a tuple with another
+/// number of values than its bus declares; a message of a group on another bus than the first; a
+/// group without messages; lookups from a file.
+pub fn lookups_of(
+    alloc: Global,
+    text: &[u8],
+    batch: &BatchText,
+    air: &AirText,
+    columns: &[Vec<u8>],
+    preprocessed: &[Vec<u8>],
+) -> Result<NamedAir, NameFault>
+    ensures { Gives said_of result (said_by_items (map section_of batch.now.sections.items)
+        (names_for text.now columns.now preprocessed.now) 0 (map placed_of air.now.items.items)) }
+{
+    let mut defined = Vec::new(alloc);
+    let mut lookups = Vec::new(alloc);
+    let mut public_values = Vec::new(alloc);
+    for item in &air.items {
+        let scope = Scope {
+            text,
+            columns,
+            preprocessed,
+            defined: defined.as_slice(),
+        };
+        match added_by(alloc, &scope, &batch.sections, public_values.len(), item)? {
+            Added::Nothing => {}
+            Added::Definition(definition) => defined.push(definition)?,
+            Added::Public(definition, value) => {
+                defined.push(definition)?;
+                public_values.push(value)?;
+            }
+            Added::Lookup(lookup) => lookups.push(lookup)?,
+        }
+    }
+    Ok(NamedAir {
+        lookups,
+        public_values,
+    })
+}
+
+/// What an item adds, after so many public values.
+#[tactic(auto, unfolding(crate::specs::Lookups::addition_at))]
+fn added_by(
+    alloc: Global,
+    scope: &Scope<'_>,
+    sections: &[SectionText],
+    publics: usize,
+    item: &PlacedItem,
+) -> Result<Added, NameFault>
+    ensures { Gives addition_of result (addition (map section_of sections.now)
+        (names_of scope.now) publics (placed_of item.now)) }
+{
+    match &item.item {
+        ItemText::Trace(_)
+        | ItemText::Preprocessed(_)
+        | ItemText::Height(_)
+        | ItemText::Columns(_) => Ok(Added::Nothing),
+        ItemText::Lookups(_) => Err(NameFault::Refused(NameRefusal {
+            at: item.at,
+            why: NameWhy::LookupsFile,
+        })),
+        ItemText::Public(name, number) => {
+            check_new(scope, *name)?;
+            let definition = define(alloc, scope, *name, Value::Public(publics))?;
+            Ok(Added::Public(definition, *number))
+        }
+        ItemText::Let(name, tree) => {
+            check_new(scope, *name)?;
+            let value = value_of(alloc, scope, tree)?;
+            Ok(Added::Definition(define(alloc, scope, *name, value)?))
+        }
+        ItemText::Message(message) => {
+            let lookup = lookup_alone(alloc, scope, sections, message)?;
+            Ok(Added::Lookup(lookup))
+        }
+        ItemText::Together(parts) => {
+            let lookup = group_of(alloc, scope, sections, item.at, false, parts)?;
+            Ok(Added::Lookup(lookup))
+        }
+        ItemText::Exclusive(parts) => {
+            let lookup = group_of(alloc, scope, sections, item.at, true, parts)?;
+            Ok(Added::Lookup(lookup))
+        }
+    }
+}
+
+/// Whether a name is not defined before.
+fn check_new(scope: &Scope<'_>, name: Span) -> Result<(), NameFault>
+    ensures { Gives (λ x. x) result (new_name (names_of scope.now) name) }
+{
+    if defined_value(scope.defined, bytes_of(scope.text, name)).is_some() {
+        return Err(NameFault::Refused(NameRefusal {
+            at: name.start,
+            why: NameWhy::RepeatedDefinition,
+        }));
+    }
+    Ok(())
+}
+
+/// A definition of a name.
+fn define(alloc: Global, scope: &Scope<'_>, name: Span, value: Value) -> Result<Defined, NameFault>
+    ensures { Gives defined_of result (Ok (bytes_in name scope.now.text.now, meant_of value)) }
+{
+    let name = Vec::from_slice(alloc, bytes_of(scope.text, name))?;
+    Ok(Defined { name, value })
+}
+
+/// The lookup of a message in a column of its own.
+#[tactic(auto, unfolding(crate::specs::Lookups::column_alone))]
+fn lookup_alone(
+    alloc: Global,
+    scope: &Scope<'_>,
+    sections: &[SectionText],
+    message: &MessageText,
+) -> Result<NamedLookup, NameFault>
+    ensures { Gives column_of result
+        (column_alone (map section_of sections.now) (names_of scope.now) (said_by message.now)) }
+{
+    let named = message_on(alloc, scope, sections, message)?;
+    let mut parts = Vec::new(alloc);
+    parts.push(NamedPart {
+        flag: None,
+        message: named,
+    })?;
+    Ok(NamedLookup {
+        at: message.at,
+        bus: message.bus,
+        exclusive: false,
+        parts,
+    })
+}
+
+/// What a message sends, on a bus that takes it.
+fn message_on(
+    alloc: Global,
+    scope: &Scope<'_>,
+    sections: &[SectionText],
+    message: &MessageText,
+) -> Result<NamedMessage, NameFault>
+    ensures { Gives sent_of result
+        (message_on (map section_of sections.now) (names_of scope.now) (said_by message.now)) }
+{
+    check_bus(scope.text, sections, message.bus, message.tuple.len())?;
+    named_message(alloc, scope, message)
+}
+
+/// The lookup of a group that begins here.
+#[tactic(auto, unfolding(crate::specs::Lookups::column_together))]
+fn group_of(
+    alloc: Global,
+    scope: &Scope<'_>,
+    sections: &[SectionText],
+    at: usize,
+    exclusive: bool,
+    parts: &[PartText],
+) -> Result<NamedLookup, NameFault>
+    ensures { Gives column_of result (column_together (map section_of sections.now)
+        (names_of scope.now) at exclusive (map said_part parts.now)) }
+{
+    let Some(first) = parts.first() else {
+        return Err(NameFault::Refused(NameRefusal {
+            at,
+            why: NameWhy::EmptyGroup,
+        }));
+    };
+    let bus = first.message.bus;
+    let parts = parts_on(alloc, scope, sections, bus, parts)?;
+    Ok(NamedLookup {
+        at,
+        bus,
+        exclusive,
+        parts,
+    })
+}
+
+/// The messages of a group, all of which are on this bus.
+fn parts_on(
+    alloc: Global,
+    scope: &Scope<'_>,
+    sections: &[SectionText],
+    bus: Option<Span>,
+    parts: &[PartText],
+) -> Result<Vec<NamedPart>, NameFault>
+    ensures { Gives (λ v. map part_of v.items) result (parts_on (map section_of sections.now)
+        (names_of scope.now) bus (map said_part parts.now)) }
+{
+    let mut named = Vec::new(alloc);
+    for part in parts {
+        named.push(part_on(alloc, scope, sections, bus, part)?)?;
+    }
+    Ok(named)
+}
+
+/// A message of a group on this bus, with its flag.
+#[tactic(auto, unfolding(crate::specs::Lookups::part_on))]
+fn part_on(
+    alloc: Global,
+    scope: &Scope<'_>,
+    sections: &[SectionText],
+    bus: Option<Span>,
+    part: &PartText,
+) -> Result<NamedPart, NameFault>
+    ensures { Gives part_of result (part_on (map section_of sections.now) (names_of scope.now)
+        bus (said_part part.now)) }
+{
+    let flag = flag_value(alloc, scope, &part.flag)?;
+    keep_bus(scope, bus, &part.message)?;
+    let message = message_on(alloc, scope, sections, &part.message)?;
+    Ok(NamedPart { flag, message })
+}
+
+/// What the flag of a message means, if it has one.
+fn flag_value(
+    alloc: Global,
+    scope: &Scope<'_>,
+    flag: &Option<Tree>,
+) -> Result<Option<Value>, NameFault>
+    ensures { Gives (option_map meant_of) result
+        (flag_meant (names_of scope.now) (option_map formula_of flag.now)) }
+{
+    match flag {
+        Some(flag) => Ok(Some(value_of(alloc, scope, flag)?)),
+        None => Ok(None),
+    }
+}
+
+/// Whether a message is on the bus of its group.
+fn keep_bus(scope: &Scope<'_>, bus: Option<Span>, message: &MessageText) -> Result<(), NameFault>
+    ensures { Gives (λ x. x) result (bus_kept (names_of scope.now) bus (said_by message.now)) }
+{
+    if same_bus(scope.text, bus, message.bus) {
+        Ok(())
+    } else {
+        Err(NameFault::Refused(NameRefusal {
+            at: message.at,
+            why: NameWhy::OtherBus,
+        }))
+    }
+}

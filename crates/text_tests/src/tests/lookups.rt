@@ -1,0 +1,221 @@
+//! The lookups of AIRs.
+use super::examples::{MEMORY, PROCESSOR};
+use super::holds;
+use super::names::number;
+use lookup_names::{
+    NameFault, NameRefusal, NameWhy, NamedAir, NamedLookup, NamedPart, check_buses, lookups_of,
+};
+use lookup_text::{AirText, BatchText, Place, SectionText, place_of, read_batch};
+use std::alloc::{AllocError, Global};
+
+/// The names between commas.
+fn names(alloc: Global, line: &[u8]) -> Result<Vec<Vec<u8>>, AllocError> {
+    let mut names = Vec::new(alloc);
+    for name in line.split(|byte| *byte == b',') {
+        names.push(Vec::from_slice(alloc, name)?)?;
+    }
+    Ok(names)
+}
+
+/// The first AIR of a batch.
+fn first_air(batch: &BatchText) -> Option<&AirText> {
+    for section in &batch.sections {
+        if let SectionText::Air(air) = section {
+            return Some(air);
+        }
+    }
+    None
+}
+
+/// The lookups of the first AIR of a text over the columns of this header, and the fixed column `f`.
+/// `None` where the text is not read.
+fn said(alloc: Global, text: &[u8], header: &[u8]) -> Option<Result<NamedAir, NameFault>> {
+    let batch = read_batch(alloc, text).ok()?;
+    let columns = names(alloc, header).ok()?;
+    let fixed = names(alloc, b"f").ok()?;
+    let air = first_air(&batch)?;
+    Some(lookups_of(
+        alloc,
+        text,
+        &batch,
+        air,
+        columns.as_slice(),
+        fixed.as_slice(),
+    ))
+}
+
+/// Whether a lookup has this bus, and as many messages.
+fn is_on(text: &[u8], lookup: &NamedLookup, bus: &[u8], messages: usize) -> bool {
+    let on = match lookup.bus {
+        Some(span) => text.get(span.start..span.end) == Some(bus),
+        None => bus == b"local".as_slice(),
+    };
+    on && lookup.parts.len() == messages
+}
+
+/// Whether a message has this flag, this first value, this count and this weight. A flag of 0 is none.
+fn sends(part: &NamedPart, flag: u64, first: u64, count: u64, weight: u64) -> bool {
+    let flagged = match &part.flag {
+        Some(value) => number(value) == flag,
+        None => flag == 0,
+    };
+    let valued = part
+        .message
+        .tuple
+        .first()
+        .is_some_and(|value| number(value) == first);
+    flagged && valued && number(&part.message.count) == count && part.message.weight == weight
+}
+
+#[test]
+fn memory(rt: HostRuntime) {
+    let alloc = rt.alloc();
+    let header = b"address,old_value,old_time,new_value,new_time";
+    let Some(Ok(air)) = said(alloc, MEMORY, header) else {
+        return holds(&rt, "it is read", false);
+    };
+    let [first, second, third] = air.lookups.as_slice() else {
+        return holds(&rt, "three lookups", false);
+    };
+    holds(
+        &rt,
+        "memory",
+        is_on(MEMORY, first, b"memory", 1) && is_on(MEMORY, second, b"memory", 1),
+    );
+    holds(
+        &rt,
+        "gaps",
+        is_on(MEMORY, third, b"gaps", 1) && !third.exclusive,
+    );
+    let minus = 0u64.wrapping_sub(1);
+    holds(&rt, "a receipt", sends(&first.parts[0], 0, 1000, minus, 1));
+    holds(
+        &rt,
+        "a query",
+        sends(&third.parts[0], 0, 1004 - 1002 - 1, 1, 1),
+    );
+    holds(&rt, "no public value", air.public_values.is_empty());
+}
+
+#[test]
+fn processor(rt: HostRuntime) {
+    let alloc = rt.alloc();
+    let header =
+        b"pc,is_add,is_and,is_mul,is_load,is_store,is_real,t,a,b,c,a_value,a_time,b_value,b_time,c_value,c_time,m_value,m_time,out[0],out[1],x[0],x[1],y[0],y[1]";
+    let Some(Ok(air)) = said(alloc, PROCESSOR, header) else {
+        return holds(&rt, "it is read", false);
+    };
+    holds(&rt, "lookups", air.lookups.len() == 15);
+    let group = &air.lookups[9];
+    holds(
+        &rt,
+        "a group",
+        is_on(PROCESSOR, group, b"and", 2) && group.exclusive,
+    );
+    holds(&rt, "its flag", sends(&group.parts[1], 1003, 0, 1, 1));
+}
+
+#[test]
+fn definitions(rt: HostRuntime) {
+    let alloc = rt.alloc();
+    let text =
+        b"air t {\npublic p = 9\nlet s = a + p\npublic q = 8\ntogether {\nquery local(s)\nprovide local(q) times 3\n}\n}";
+    let Some(Ok(air)) = said(alloc, text, b"a") else {
+        return holds(&rt, "it is read", false);
+    };
+    holds(
+        &rt,
+        "public values",
+        air.public_values.as_slice() == [9, 8].as_slice(),
+    );
+    let [group] = air.lookups.as_slice() else {
+        return holds(&rt, "one lookup", false);
+    };
+    holds(
+        &rt,
+        "local",
+        is_on(text, group, b"local", 2) && !group.exclusive,
+    );
+    holds(&rt, "a definition", sends(&group.parts[0], 0, 4000, 1, 1));
+    let minus = 0u64.wrapping_sub(3);
+    holds(
+        &rt,
+        "a public value",
+        sends(&group.parts[1], 0, 3001, minus, 0),
+    );
+}
+
+/// Whether the first AIR of a text, which has the column `a`, is refused at this line and column.
+fn refused(alloc: Global, text: &[u8], line: usize, column: usize, why: NameWhy) -> bool {
+    match said(alloc, text, b"a") {
+        Some(Err(NameFault::Refused(refusal))) => {
+            refusal.why == why && place_of(text, refusal.at) == Place { line, column }
+        }
+        _ => false,
+    }
+}
+
+#[test]
+fn faults(rt: HostRuntime) {
+    let alloc = rt.alloc();
+    let text = b"bus b(x)\nair t {\n query c(a)\n}";
+    holds(
+        &rt,
+        "no such bus",
+        refused(alloc, text, 3, 8, NameWhy::UndeclaredBus),
+    );
+    let text = b"air t {\n query b(a, a)\n}\nbus b(x)";
+    holds(
+        &rt,
+        "two values",
+        refused(alloc, text, 2, 8, NameWhy::TupleWidth),
+    );
+    let text = b"air t {\n let s = 1\n public s = 2\n}";
+    holds(
+        &rt,
+        "two definitions",
+        refused(alloc, text, 3, 9, NameWhy::RepeatedDefinition),
+    );
+    let text = b"air t {\n let s = s\n}";
+    holds(
+        &rt,
+        "not yet defined",
+        refused(alloc, text, 2, 10, NameWhy::UnknownName),
+    );
+    let text = b"air t {\n together {\n query b(a)\n query c(a)\n}\n}";
+    holds(
+        &rt,
+        "two buses",
+        refused(alloc, text, 4, 2, NameWhy::OtherBus),
+    );
+    let text = b"air t {\n exclusive {\n}\n}";
+    holds(
+        &rt,
+        "no message",
+        refused(alloc, text, 2, 2, NameWhy::EmptyGroup),
+    );
+    let text = b"air t {\n lookups \"l.json\"\n}";
+    holds(
+        &rt,
+        "a file",
+        refused(alloc, text, 2, 2, NameWhy::LookupsFile),
+    );
+}
+
+#[test]
+fn buses(rt: HostRuntime) {
+    let alloc = rt.alloc();
+    let (once, twice) = (MEMORY, b"bus b(x)\nbus c(x)\nbus b(y)");
+    let Ok(batch) = read_batch(alloc, once) else {
+        return holds(&rt, "it is read", false);
+    };
+    holds(&rt, "once", check_buses(once, &batch).is_ok());
+    let Ok(batch) = read_batch(alloc, twice) else {
+        return holds(&rt, "it is read", false);
+    };
+    let wanted = NameFault::Refused(NameRefusal {
+        at: 22,
+        why: NameWhy::RepeatedBus,
+    });
+    holds(&rt, "twice", check_buses(twice, &batch) == Err(wanted));
+}
