@@ -14,5 +14,5 @@ pub use air::{NamedAir, NamedLookup, NamedPart, lookups_of};
 pub use bus::check_buses;
 pub use fault::{NameFault, NameRefusal, NameWhy};
 pub use message::{NamedMessage, named_message};
-pub use scope::{Defined, Scope, value_of};
+pub use scope::{Defined, Scope, bytes_of, value_of};
 pub use value::{Value, copy_of};

@@ -202,7 +202,7 @@ fn next_value(scope: &Scope<'_>, span: Span) -> Result<Value, NameFault>
 }
 
 /// The bytes of a span, none where it is not within the text.
-pub(crate) fn bytes_of(text: &[u8], span: Span) -> &[u8]
+pub fn bytes_of(text: &[u8], span: Span) -> &[u8]
     ensures { result.now ≡ bytes_in span text.now }
 {
     if span.start <= span.end && span.end <= text.len() {

@@ -1,6 +1,7 @@
 //! Texts, and what is read of them.
 mod batches;
 mod examples;
+mod files;
 mod formulas;
 mod lookups;
 mod names;

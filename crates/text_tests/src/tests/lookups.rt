@@ -8,10 +8,10 @@ use lookup_names::{
 use lookup_text::{AirText, BatchText, Place, SectionText, place_of, read_batch};
 use std::alloc::{AllocError, Global};
 
-/// The names between commas.
+/// The names between commas and ends of lines.
 fn names(alloc: Global, line: &[u8]) -> Result<Vec<Vec<u8>>, AllocError> {
     let mut names = Vec::new(alloc);
-    for name in line.split(|byte| *byte == b',') {
+    for name in line.split(|byte| matches!(*byte, b',' | b'\n')) {
         names.push(Vec::from_slice(alloc, name)?)?;
     }
     Ok(names)
@@ -27,8 +27,8 @@ fn first_air(batch: &BatchText) -> Option<&AirText> {
     None
 }
 
-/// The lookups of the first AIR of a text over the columns of this header, and the fixed column `f`.
-/// `None` where the text is not read.
+/// The lookups of the first AIR of a text over the columns of this header, and the fixed column
+/// `f`. `None` where the text is not read.
 fn said(alloc: Global, text: &[u8], header: &[u8]) -> Option<Result<NamedAir, NameFault>> {
     let batch = read_batch(alloc, text).ok()?;
     let columns = names(alloc, header).ok()?;
@@ -53,7 +53,8 @@ fn is_on(text: &[u8], lookup: &NamedLookup, bus: &[u8], messages: usize) -> bool
     on && lookup.parts.len() == messages
 }
 
-/// Whether a message has this flag, this first value, this count and this weight. A flag of 0 is none.
+/// Whether a message has this flag, this first value, this count and this weight. A flag of 0 is
+/// none.
 fn sends(part: &NamedPart, flag: u64, first: u64, count: u64, weight: u64) -> bool {
     let flagged = match &part.flag {
         Some(value) => number(value) == flag,
@@ -100,8 +101,9 @@ fn memory(rt: HostRuntime) {
 #[test]
 fn processor(rt: HostRuntime) {
     let alloc = rt.alloc();
-    let header =
-        b"pc,is_add,is_and,is_mul,is_load,is_store,is_real,t,a,b,c,a_value,a_time,b_value,b_time,c_value,c_time,m_value,m_time,out[0],out[1],x[0],x[1],y[0],y[1]";
+    let header = br#"pc,is_add,is_and,is_mul,is_load,is_store,is_real,t,a,b,c
+a_value,a_time,b_value,b_time,c_value,c_time,m_value,m_time
+out[0],out[1],x[0],x[1],y[0],y[1]"#;
     let Some(Ok(air)) = said(alloc, PROCESSOR, header) else {
         return holds(&rt, "it is read", false);
     };
@@ -118,8 +120,15 @@ fn processor(rt: HostRuntime) {
 #[test]
 fn definitions(rt: HostRuntime) {
     let alloc = rt.alloc();
-    let text =
-        b"air t {\npublic p = 9\nlet s = a + p\npublic q = 8\ntogether {\nquery local(s)\nprovide local(q) times 3\n}\n}";
+    let text = br#"air t {
+public p = 9
+let s = a + p
+public q = 8
+together {
+query local(s)
+provide local(q) times 3
+}
+}"#;
     let Some(Ok(air)) = said(alloc, text, b"a") else {
         return holds(&rt, "it is read", false);
     };

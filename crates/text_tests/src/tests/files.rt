@@ -1,0 +1,149 @@
+//! The files of texts, and their tables.
+use super::examples::{MEMORY, PROCESSOR};
+use super::holds;
+use lookup_files::{
+    AirTables, NamedFile, TableFault, TableRefusal, TableWhy, files_of, read_tables,
+};
+use lookup_text::{BatchText, Why, read_batch};
+use std::alloc::{AllocError, Global};
+
+fn is(name: &[u8], wanted: &[u8]) -> bool {
+    name == wanted
+}
+
+#[test]
+fn names(rt: HostRuntime) {
+    let alloc = rt.alloc();
+    let Some(files) = names_in(alloc, MEMORY) else {
+        return holds(&rt, "the memory is read", false);
+    };
+    let [accesses, boundary, gaps] = files.as_slice() else {
+        return holds(&rt, "three files", false);
+    };
+    holds(&rt, "the first", is(accesses, b"accesses.csv"));
+    holds(
+        &rt,
+        "the others",
+        is(boundary, b"boundary.csv") && is(gaps, b"gaps.csv"),
+    );
+    let Some(files) = names_in(alloc, PROCESSOR) else {
+        return holds(&rt, "the processor is read", false);
+    };
+    holds(
+        &rt,
+        "a fixed table",
+        files.len() == 11 && is(&files[2], b"program.csv"),
+    );
+}
+
+fn names_in(alloc: Global, text: &[u8]) -> Option<Vec<Vec<u8>>> {
+    let batch = read_batch(alloc, text).ok()?;
+    files_of(alloc, text, &batch).ok()
+}
+
+/// The files `t.csv`, `bad.csv` and `none.csv`, which cannot be read.
+fn some_files(alloc: Global) -> Result<Vec<NamedFile>, AllocError> {
+    let good = NamedFile {
+        name: Vec::from_slice(alloc, b"t.csv")?,
+        content: Some(Vec::from_slice(alloc, b"a,b\n1,-1\n2,3\n")?),
+    };
+    let bad = NamedFile {
+        name: Vec::from_slice(alloc, b"bad.csv")?,
+        content: Some(Vec::from_slice(alloc, b"a\nx\n")?),
+    };
+    let none = NamedFile {
+        name: Vec::from_slice(alloc, b"none.csv")?,
+        content: None,
+    };
+    Ok(Vec::from_array(alloc, [good, bad, none])?)
+}
+
+/// The tables of a text over these files, with modulus 7, or why not. `None` where the text is not
+/// read.
+fn tables(alloc: Global, text: &[u8]) -> Option<Result<Vec<AirTables>, TableFault>> {
+    let batch: BatchText = read_batch(alloc, text).ok()?;
+    let files = some_files(alloc).ok()?;
+    Some(read_tables(alloc, text, &batch, files.as_slice(), 7))
+}
+
+#[test]
+fn tables_of_airs(rt: HostRuntime) {
+    let alloc = rt.alloc();
+    let text = br#"air t {
+trace "t.csv"
+}
+bus b(x)
+air u {
+preprocessed "t.csv"
+trace "t.csv"
+}"#;
+    let Some(Ok(tables)) = tables(alloc, text) else {
+        return holds(&rt, "they are read", false);
+    };
+    let [first, second] = tables.as_slice() else {
+        return holds(&rt, "two AIRs", false);
+    };
+    holds(
+        &rt,
+        "cells",
+        first.main.cells.as_slice() == [1, 6, 2, 3].as_slice(),
+    );
+    holds(
+        &rt,
+        "one table",
+        first.preprocessed.is_none() && second.preprocessed.is_some(),
+    );
+}
+
+/// Whether the tables of a text are refused so.
+fn refused(alloc: Global, text: &[u8], in_file: bool, at: usize, why: TableWhy) -> bool {
+    match tables(alloc, text) {
+        Some(
+            Err(
+                TableFault::Refused(
+                    TableRefusal {
+                        file,
+                        at: place,
+                        why: found,
+                    },
+                ),
+            ),
+        ) => { file.is_some() == in_file && place == at && found == why }
+        _ => false,
+    }
+}
+
+#[test]
+fn refusals(rt: HostRuntime) {
+    let alloc = rt.alloc();
+    let text = b"air t {\n}";
+    holds(
+        &rt,
+        "no trace",
+        refused(alloc, text, false, 4, TableWhy::NoTrace),
+    );
+    let text = b"air t {\ntrace \"t.csv\"\ntrace \"t.csv\"\n}";
+    holds(
+        &rt,
+        "two traces",
+        refused(alloc, text, false, 22, TableWhy::RepeatedTrace),
+    );
+    let text = b"air t {\ntrace \"none.csv\"\n}";
+    holds(
+        &rt,
+        "not readable",
+        refused(alloc, text, false, 15, TableWhy::Unreadable),
+    );
+    let text = b"air t {\ntrace \"other.csv\"\n}";
+    holds(
+        &rt,
+        "not there",
+        refused(alloc, text, false, 15, TableWhy::Unreadable),
+    );
+    let text = b"air t {\ntrace \"bad.csv\"\n}";
+    holds(
+        &rt,
+        "a fault",
+        refused(alloc, text, true, 2, TableWhy::Text(Why::Number)),
+    );
+}
