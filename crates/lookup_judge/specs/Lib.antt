@@ -1,0 +1,3 @@
+pub mod Judged
+pub mod Refusals
+pub mod Runs

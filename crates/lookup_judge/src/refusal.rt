@@ -1,0 +1,197 @@
+//! Why a run is refused, as text.
+use crate::fault::JudgeFault;
+use crate::mark::{name_text, push_mark, push_place, push_why};
+use crate::page::Page;
+use crate::words::{air_at, trace_file};
+use lookup::debug_util::FitFault;
+use lookup_elements::ElementWhy;
+use lookup_files::{NamedFile, TableRefusal, TableWhy};
+use lookup_names::bytes_of;
+use lookup_text::{BatchText, Fault, Span};
+use std::alloc::{AllocError, AllocFailed, Global};
+
+/// A refusal of the program.
+#[derive(Debug, Drop)]
+pub enum RunRefusal {
+    /// Out of memory.
+    Memory,
+    /// Anything else, as the lines that tell it.
+    Told(Vec<u8>),
+}
+
+impl From<AllocError> for RunRefusal {
+    fn from(_error: AllocError) -> RunRefusal {
+        RunRefusal::Memory
+    }
+}
+
+impl<T: Drop> From<AllocFailed<T>> for RunRefusal {
+    fn from(_error: AllocFailed<T>) -> RunRefusal {
+        RunRefusal::Memory
+    }
+}
+
+impl RunRefusal {
+    /// `usage: lookup-check check FILE`.
+    pub fn usage(alloc: Global) -> Result<RunRefusal, AllocError> {
+        let mut page = Page::new(alloc);
+        page.word("usage: lookup-check check FILE\n")?;
+        Ok(RunRefusal::Told(page.bytes))
+    }
+
+    /// What is wrong with a whole file.
+    pub fn of_file(alloc: Global, file: &[u8], what: &str) -> Result<RunRefusal, AllocError> {
+        let mut page = Page::new(alloc);
+        page.shown(file)?;
+        page.word(": error: ")?;
+        page.word(what)?;
+        page.word("\n")?;
+        Ok(RunRefusal::Told(page.bytes))
+    }
+
+    /// What is wrong at a byte of a file.
+    pub(crate) fn at(
+        alloc: Global,
+        file: &[u8],
+        text: &[u8],
+        at: usize,
+        what: &str,
+    ) -> Result<RunRefusal, AllocError> {
+        let mut page = Page::new(alloc);
+        push_place(&mut page, file, text, at)?;
+        page.word(what)?;
+        push_mark(&mut page, text, at)?;
+        Ok(RunRefusal::Told(page.bytes))
+    }
+
+    /// The fault of the text of a file.
+    pub(crate) fn of_text(
+        alloc: Global,
+        file: &[u8],
+        text: &[u8],
+        fault: Fault,
+    ) -> Result<RunRefusal, AllocError> {
+        let mut page = Page::new(alloc);
+        push_place(&mut page, file, text, fault.at)?;
+        push_why(&mut page, fault.why)?;
+        push_mark(&mut page, text, fault.at)?;
+        Ok(RunRefusal::Told(page.bytes))
+    }
+
+    /// What is wrong with the tables of a batch.
+    pub(crate) fn of_tables(
+        alloc: Global,
+        file: &[u8],
+        text: &[u8],
+        files: &[NamedFile],
+        refusal: TableRefusal,
+    ) -> Result<RunRefusal, AllocError> {
+        let TableRefusal {
+            file: named,
+            at,
+            why,
+        } = refusal;
+        let what = match why {
+            TableWhy::NoTrace => "this AIR has no trace",
+            TableWhy::RepeatedTrace => "this AIR has a trace already",
+            TableWhy::RepeatedPreprocessed => "this AIR has a preprocessed trace already",
+            TableWhy::Unreadable => "this file cannot be read",
+            TableWhy::Text(why) => {
+                let name = match named {
+                    Some(span) => bytes_of(text, span),
+                    None => file,
+                };
+                let fault = Fault { at, why };
+                return RunRefusal::of_text(alloc, name, content_of(files, name), fault);
+            }
+        };
+        RunRefusal::at(alloc, file, text, at, what)
+    }
+
+    /// Why a batch is not judged.
+    pub(crate) fn of_judge(
+        alloc: Global,
+        file: &[u8],
+        text: &[u8],
+        batch: &BatchText,
+        fault: JudgeFault,
+    ) -> Result<RunRefusal, AllocError> {
+        match fault {
+            JudgeFault::Memory => Ok(RunRefusal::Memory),
+            JudgeFault::Name(found) => {
+                RunRefusal::at(alloc, file, text, found.at, name_text(found.why))
+            }
+            JudgeFault::Element(found) => {
+                RunRefusal::at(alloc, file, text, found.at, element_text(found.why))
+            }
+            JudgeFault::Rows { air } => {
+                let name = file_of(text, batch, air);
+                RunRefusal::of_file(alloc, name, "there are no rows")
+            }
+            JudgeFault::Fit { air, fault } => {
+                let at = name_of(batch, air).start;
+                RunRefusal::at(alloc, file, text, at, fit_text(fault))
+            }
+            JudgeFault::Lookups { air, error } => {
+                let what = format!(in alloc; "{error}")?;
+                let at = name_of(batch, air).start;
+                RunRefusal::at(alloc, file, text, at, what.as_str())
+            }
+            JudgeFault::Tables { .. } => RunRefusal::of_file(alloc, file, "tables are missing"),
+            JudgeFault::Batch(error) => {
+                let what = format!(in alloc; "{error}")?;
+                RunRefusal::of_file(alloc, file, what.as_str())
+            }
+        }
+    }
+}
+
+/// The name of the AIR with this number.
+fn name_of(batch: &BatchText, air: usize) -> Span {
+    match air_at(batch, air) {
+        Some(air) => air.name,
+        None => Span { start: 0, end: 0 },
+    }
+}
+
+/// The file of the main trace of the AIR with this number.
+fn file_of<'a>(text: &'a [u8], batch: &BatchText, air: usize) -> &'a [u8] {
+    match air_at(batch, air) {
+        Some(air) => match trace_file(air) {
+            Some(file) => bytes_of(text, file),
+            None => &[],
+        },
+        None => &[],
+    }
+}
+
+/// Why a lookup cannot be made.
+fn element_text(why: ElementWhy) -> &'static str {
+    match why {
+        ElementWhy::BusName => "the name of a bus has to be UTF-8",
+        ElementWhy::Weight => "these weights do not fit 64 bits",
+    }
+}
+
+/// Why lookups do not fit the tables of their AIR.
+fn fit_text(fault: FitFault) -> &'static str {
+    match fault {
+        FitFault::Heights { .. } => "the two tables of this AIR have not as many rows",
+        FitFault::Missing { .. } | FitFault::Malformed { .. } => {
+            "the lookups of this AIR do not fit its tables"
+        }
+    }
+}
+
+/// What the first file with a name holds.
+fn content_of<'a>(files: &'a [NamedFile], name: &[u8]) -> &'a [u8] {
+    for file in files {
+        if file.name.as_slice() == name {
+            return match &file.content {
+                Some(content) => content.as_slice(),
+                None => &[],
+            };
+        }
+    }
+    &[]
+}
