@@ -2,12 +2,14 @@
 use crate::fault::JudgeFault;
 use crate::mark::{name_text, push_mark, push_place, push_why};
 use crate::page::Page;
-use crate::words::{air_at, trace_file};
+use crate::words::{air_at, lookup_at, trace_file};
+use batch::BatchError;
+use lookup::LookupError;
 use lookup::debug_util::FitFault;
 use lookup_elements::ElementWhy;
 use lookup_files::{NamedFile, TableRefusal, TableWhy};
 use lookup_names::bytes_of;
-use lookup_text::{BatchText, Fault, Span};
+use lookup_text::{BatchText, Fault, Span, place_of};
 use std::alloc::{AllocError, AllocFailed, Global};
 
 /// A refusal of the program.
@@ -132,10 +134,9 @@ impl RunRefusal {
                 let at = name_of(batch, air).start;
                 RunRefusal::at(alloc, file, text, at, fit_text(fault))
             }
-            JudgeFault::Lookups { air, error } => {
-                let what = format!(in alloc; "{error}")?;
-                let at = name_of(batch, air).start;
-                RunRefusal::at(alloc, file, text, at, what.as_str())
+            JudgeFault::Lookups { air, error }
+            | JudgeFault::Batch(BatchError::Air { air, error }) => {
+                RunRefusal::of_air(alloc, file, text, batch, air, &error)
             }
             JudgeFault::Tables { .. } => RunRefusal::of_file(alloc, file, "tables are missing"),
             JudgeFault::Batch(error) => {
@@ -143,6 +144,52 @@ impl RunRefusal {
                 RunRefusal::of_file(alloc, file, what.as_str())
             }
         }
+    }
+
+    /// Why the lookups of the AIR with this number are refused: at a row of its table, where the
+    /// flags of a row are at fault, and else at its name.
+    fn of_air(
+        alloc: Global,
+        file: &[u8],
+        text: &[u8],
+        batch: &BatchText,
+        air: usize,
+        error: &LookupError,
+    ) -> Result<RunRefusal, AllocError> {
+        let (row, lookup, what) = match error {
+            LookupError::FlagNotBoolean { row, lookup } => {
+                (*row, *lookup, " is neither 0 nor 1 on this row\n")
+            }
+            LookupError::FlagsNotExclusive { row, lookup } => {
+                (*row, *lookup, " is 1 on this row, and so is another one\n")
+            }
+            other => {
+                let what = format!(in alloc; "{other}")?;
+                let at = name_of(batch, air).start;
+                return RunRefusal::at(alloc, file, text, at, what.as_str());
+            }
+        };
+        let mut page = Page::new(alloc);
+        page.shown(file_of(text, batch, air))?;
+        page.word(":")?;
+        page.number(row as u128 + 2)?;
+        page.word(": error: a flag of ")?;
+        page.shown(file)?;
+        page.word(":")?;
+        page.number(line_of(text, batch, air, lookup) as u128)?;
+        page.word(what)?;
+        Ok(RunRefusal::Told(page.bytes))
+    }
+}
+
+/// The line of a lookup of the AIR with this number.
+fn line_of(text: &[u8], batch: &BatchText, air: usize, lookup: usize) -> usize {
+    match air_at(batch, air) {
+        Some(air) => match lookup_at(air, lookup) {
+            Some(item) => place_of(text, item.at).line,
+            None => 0,
+        },
+        None => 0,
     }
 }
 
