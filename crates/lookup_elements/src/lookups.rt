@@ -3,7 +3,7 @@ ghost use Rattle.std.specs.Prelude.{◌≡◌, ◌⊎◌, ◌^◌, ◌≤◌, If
 ghost use Rattle.expressions.specs.Tree.{tree_of};
 ghost use Rattle.field.specs.Residue.{residue_of};
 ghost use Rattle.lookup_model.specs.Outline.{bus_of, outline_of};
-ghost use Rattle.lookup_model.specs.Records.{AreRecords, HasEqualLengths};
+ghost use Rattle.lookup_model.specs.Records.{AreRecords, IsRecordAt};
 ghost use Rattle.lookup_names.specs.Lookups.{column_of, part_of};
 ghost use Rattle.lookup_names.specs.Scopes.{bytes_in};
 ghost use Rattle.lookup_names.specs.Values.{meant_of};
@@ -58,7 +58,7 @@ fn lookup_over<const P: u32, K: MontyParameters<P>>(
         (λ e. (e ≡ ElementFault.Memory) ⊎ (refusal : ElementRefusal)
         × (e ≡ ElementFault.Refused refusal)
         × IsColumnRefusal text.now (column_of named.now) refusal) }
-    ensures lengths { IfOk result HasEqualLengths }
+    ensures record { IfOk result (IsRecordAt column) }
 {
     let kind = kind_of(alloc, text, named.bus)?;
     let Some(count_weight) = weight_of(named) else {

@@ -1,7 +1,7 @@
-use Rattle.std.proofs.Common.{◌≡◌, All, map, take}
+use Rattle.std.proofs.Common.{◌≡◌, All, length, map, take}
 use Rattle.field.specs.Residue.{residue_of}
 use Rattle.lookup_model.specs.Outline.{outline_of}
-use Rattle.lookup_model.specs.Records.{HasEqualLengths}
+use Rattle.lookup_model.specs.Records.{AreRecords}
 use Rattle.lookup_names.specs.Lookups.{column_of}
 use Rattle.lookup_elements.specs.Columns.{IsMade, outlines_in}
 use Rattle.lookup_elements.proofs.lookups.lookups_over.Given as goal
@@ -11,5 +11,6 @@ abbrev pub invariant-loop-index : goal.invariant-loop-index
 invariant-loop-index g l = record {
   outlines : map outline_of l.lookups.items ≡ outlines_in (residue_of g.P g.K.positive) l.text 0 (map column_of (take l.index l.named));
   made : All (IsMade l.text) (map column_of (take l.index l.named));
-  lengths : All HasEqualLengths l.lookups.items;
+  records : AreRecords l.lookups.items;
+  as_many : length l.lookups.items ≡ l.index;
 }
