@@ -8,4 +8,4 @@ use Rattle.lookup_elements.specs.Expressions.{tree_in}
 use Rattle.lookup_elements.proofs.lookups.tuple_over.Given as goal
 
 abbrev pub invariant-loop-value : goal.invariant-loop-value
-invariant-loop-value g l = map tree_of l.tuple.items ≡ map (tree_in (residue_of g.P g.K.positive)) (map meant_of (take l.value-index l.values))
+invariant-loop-value g l = map tree_of l.tuple.items ≡ map (tree_in (residue_of g.row.P g.K.MontyParameters.positive)) (map meant_of (take l.value-index l.values))

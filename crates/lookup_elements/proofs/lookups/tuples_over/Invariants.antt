@@ -8,4 +8,4 @@ use Rattle.lookup_elements.specs.Expressions.{tree_in}
 use Rattle.lookup_elements.proofs.lookups.tuples_over.Given as goal
 
 abbrev pub invariant-loop-part : goal.invariant-loop-part
-invariant-loop-part g l = map (λ tuple. map tree_of tuple.items) l.tuples.items ≡ map (λ p. map (tree_in (residue_of g.P g.K.positive)) p.message.tuple) (map part_of (take l.part-index l.parts))
+invariant-loop-part g l = map (λ tuple. map tree_of tuple.items) l.tuples.items ≡ map (λ p. map (tree_in (residue_of g.row.P g.K.MontyParameters.positive)) p.message.tuple) (map part_of (take l.part-index l.parts))
