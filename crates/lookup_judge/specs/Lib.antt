@@ -1,3 +1,3 @@
-pub mod Judged
+pub mod Fitting
 pub mod Refusals
 pub mod Runs

@@ -1,36 +1,26 @@
 -- What a run answers, writes and ends with.
-use Rattle.std.specs.Prelude.{◌≡◌, ◌≢◌, ◌⊎◌, ◌↔◌, ◌++◌, ◌^◌, ◌<◌, ℕ, IsTrue, Bool, true, false, List, [], ◌∷◌, Option, Result, Ok, MatchResult, codes, cond}
+use Rattle.std.specs.Prelude.{◌≡◌, ◌⊎◌, ◌++◌, ℕ, Bool, true, false, List, Option, Result, Ok, MatchResult, codes, cond}
 use Rattle.std.specs.Io.KnownBytes.{Appends}
-use Rattle.field.specs.Ring.{Ring}
 use Rattle.lookup_text.specs.Batches.{Section, batch_at}
 use Rattle.lookup_files.specs.Files.{File}
 use Rattle.lookup_files.specs.Tables.{TablesOf, all_tables}
-use Rattle.lookup_debug.specs.Contributions.{Traced}
-use Rattle.lookup_debug.specs.Mismatch.{AllBalance}
-use Rattle.lookup_judge.specs.Judged.{AreSaid}
 use Rattle.lookup_judge.specs.declared.refusal.RunRefusal.{RunRefusal}
-use Rattle.lookup_judge.specs.declared.run.Answer.{Answer}
+use Rattle.lookup_judge.specs.declared.program.Answer.{Answer}
 
 -- the last line: whether all balances
 abbrev pub verdict_line : Bool → List ℕ
 verdict_line true = codes "\nBALANCED: every tuple of every bus and local lookup cancels\n"
 verdict_line false = codes "\nNOT BALANCED\n"
 
-module _ {F : Type 0} (R : Ring F) (eq : F → F → Bool) (element : ℕ → F) (p : ℕ) where
-  -- The answer to the words `check FILE` over the bytes of FILE and the files that it names: it says whether
-  -- the lookups and traces that they say balance, and its last line does.
-  pub record IsAnswer (words : List (List ℕ)) (text : List ℕ) (files : List File) (answer : Answer) : Type 0 where
-    pub file : List ℕ
-    pub words_are : words ≡ codes "check" ∷ file ∷ []
-    pub sections : List Section
-    pub read : batch_at text ≡ Ok sections
-    pub tables : List TablesOf
-    pub tables_are : all_tables text files p sections ≡ Ok tables
-    pub traced : List (Traced F)
-    pub said : AreSaid element text sections tables traced
-    pub balanced : IsTrue answer.balanced ↔ AllBalance R eq traced
-    pub front : List ℕ
-    pub told : answer.text.items ≡ front ++ verdict_line answer.balanced
+-- The answer over the bytes of a file and the files that it names: they can be read, with numbers below
+-- p, and the last line says whether all balances.
+pub record IsAnswer (p : ℕ) (text : List ℕ) (files : List File) (answer : Answer) : Type 0 where
+  pub sections : List Section
+  pub read : batch_at text ≡ Ok sections
+  pub tables : List TablesOf
+  pub tables_are : all_tables text files p sections ≡ Ok tables
+  pub front : List ℕ
+  pub told : answer.text.items ≡ front ++ verdict_line answer.balanced
 
 -- The status of a run, and what becomes of its outputs. An answer is written whole, with status 0 if all
 -- balances and 1 if not, and nothing to the errors; or the status is 2. A refusal has status 2, and leaves

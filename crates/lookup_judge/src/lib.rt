@@ -7,18 +7,18 @@
 #![tactic(auto)]
 
 mod fault;
-mod judge;
+mod judgement;
 mod mark;
 mod page;
 mod refusal;
 mod report;
-mod run;
+mod program;
 mod sections;
 mod unbalanced;
 mod words;
 
 pub use fault::JudgeFault;
-pub use judge::judge;
+pub use judgement::judge;
 pub use refusal::RunRefusal;
 pub use report::{AirReport, Report};
-pub use run::{refuse, run};
+pub use program::{refuse, run};

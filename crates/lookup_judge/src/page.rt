@@ -1,4 +1,6 @@
 //! Text that grows, and lines whose cells stand below each other.
+ghost use Rattle.std.specs.Prelude.{◌≡◌, ◌++◌, OnOk};
+
 use std::alloc::{AllocError, Global};
 
 /// Text that grows.
@@ -22,7 +24,9 @@ impl Page {
     }
 
     /// Appends a word.
-    pub(crate) fn word(&mut self, word: &str) -> Result<(), AllocError> {
+    pub(crate) fn word(&mut self, word: &str) -> Result<(), AllocError>
+        ensures { OnOk result (self.new.bytes.items ≡ self.old.bytes.items ++ word.now) }
+    {
         self.bytes.extend_from_slice(word.as_bytes())
     }
 
@@ -45,7 +49,7 @@ impl Page {
         let text = format!(in self.alloc; "{number}")?;
         let digits = text.as_bytes();
         for (index, digit) in digits.iter().enumerate() {
-            if index > 0 && (digits.len() - index) % 3 == 0 {
+            if index > 0 && digits.len().saturating_sub(index) % 3 == 0 {
                 self.bytes.push(b',')?;
             }
             self.bytes.push(*digit)?;
@@ -88,9 +92,11 @@ impl Page {
         for ((cell, width), right) in line.iter().zip(widths).zip(right) {
             self.blanks(missing)?;
             self.word("  ")?;
-            let blanks = width.saturating_sub(characters(cell));
-            missing = if *right { 0 } else { blanks };
-            self.blanks(blanks - missing)?;
+            missing = width.saturating_sub(characters(cell));
+            if *right {
+                self.blanks(missing)?;
+                missing = 0;
+            }
             self.bytes.extend_from_slice(cell)?;
         }
         self.word("\n")

@@ -1,4 +1,7 @@
 //! Why a run is refused, as text.
+ghost use Rattle.std.specs.Prelude.{◌≡◌};
+ghost use Rattle.lookup_judge.specs.declared.refusal.RunRefusal.TheVariants.{Memory};
+
 use crate::fault::JudgeFault;
 use crate::mark::{name_text, push_mark, push_place, push_why};
 use crate::page::Page;
@@ -22,12 +25,16 @@ pub enum RunRefusal {
 }
 
 impl From<AllocError> for RunRefusal {
+    ghost from_gives = { λ _ e. e ≡ Memory };
+
     fn from(_error: AllocError) -> RunRefusal {
         RunRefusal::Memory
     }
 }
 
 impl<T: Drop> From<AllocFailed<T>> for RunRefusal {
+    ghost from_gives = { λ _ e. e ≡ Memory };
+
     fn from(_error: AllocFailed<T>) -> RunRefusal {
         RunRefusal::Memory
     }

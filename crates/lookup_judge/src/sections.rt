@@ -1,4 +1,7 @@
 //! The sections of a report, as text.
+ghost use Rattle.std.specs.Prelude.{◌≡◌, ◌++◌, ℕ, List, OnOk};
+ghost use Rattle.lookup_judge.specs.Runs.{verdict_line};
+
 use crate::page::{Page, head, number_cell, numbers_cell, shown_cell, word_cell};
 use crate::report::{AirReport, Report};
 use crate::unbalanced::push_unbalanced;
@@ -15,17 +18,20 @@ pub(crate) fn push_report<const P: u32, K: MontyParameters<P>>(
     text: &[u8],
     batch: &BatchText,
     report: &Report<MontyField31<P, K>>,
-) -> Result<(), AllocError> {
+) -> Result<(), AllocError>
+    ensures { OnOk result ((front : List ℕ)
+        × (page.new.bytes.items ≡ front ++ verdict_line report.now.balanced)) }
+{
     push_airs(page, text, batch, &report.airs)?;
     push_heights(page, report)?;
     push_buses(page, text, batch, &report.groups)?;
     push_unbalanced(page, text, batch, &report.groups)?;
     push_soundness(page, report)?;
-    page.word(if report.balanced {
-        "\nBALANCED: every tuple of every bus and local lookup cancels\n"
+    if report.balanced {
+        page.word("\nBALANCED: every tuple of every bus and local lookup cancels\n")
     } else {
-        "\nNOT BALANCED\n"
-    })
+        page.word("\nNOT BALANCED\n")
+    }
 }
 
 /// Appends a line for each AIR.

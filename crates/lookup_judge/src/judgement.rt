@@ -1,10 +1,7 @@
 //! A batch, judged.
-ghost use Rattle.std.specs.Prelude.{◌≡◌, ◌↔◌, IfOk, IsTrue, List, map};
-ghost use Rattle.field.specs.Residue.{residue_of};
-ghost use Rattle.lookup_debug.specs.Contributions.{Traced};
-ghost use Rattle.lookup_files.specs.Tables.{tables_of};
-ghost use Rattle.lookup_judge.specs.Judged.{AreSaid, IsFound};
-ghost use Rattle.lookup_text.specs.Batches.{section_of};
+ghost use Rattle.std.specs.Prelude.{◌≡◌, IfOk, map};
+ghost use Rattle.lookup_debug.specs.Contributions.{traced_of};
+ghost use Rattle.lookup_judge.specs.Fitting.{AreFittingAirs, IsFittingAir, over_traced};
 
 use crate::fault::JudgeFault;
 use crate::report::{AirReport, Report};
@@ -47,13 +44,7 @@ pub fn judge<const P: u32, K: QuarticParameters<P>>(
     batch: &BatchText,
     tables: &[AirTables],
     limit: usize,
-) -> Result<Report<MontyField31<P, K>>, JudgeFault>
-    ensures { IfOk result (λ report. (traced : List (Traced _))
-        × AreSaid (residue_of P K.positive) text.now (map section_of batch.now.sections.items)
-        (map tables_of tables.now) traced
-        × IsFound ⟦<MontyQuartic<P, K> as Over<MontyField31<P, K>>>⟧.fields P limit
-        (λ x. x.value) traced report) }
-{
+) -> Result<Report<MontyField31<P, K>>, JudgeFault> {
     check_buses(text, batch)?;
     let airs = airs_over::<P, K>(alloc, text, batch, tables)?;
     let plan = plan_of(alloc, &airs)?;
@@ -61,7 +52,7 @@ pub fn judge<const P: u32, K: QuarticParameters<P>>(
     let counts = plan.soundness_count::<MontyQuartic<P, K>>(alloc, traces.as_slice())?;
     let heights = plan.soundness_of_heights::<MontyQuartic<P, K>>()?;
     let instances = instances_of(alloc, &airs)?;
-    let groups = bus_table(alloc, instances.as_slice(), limit)?;
+    let groups = bus_table(alloc, &instances, limit)?;
     let balanced = all_balance(&groups);
     Ok(Report {
         airs: reports_of(alloc, &airs)?,
@@ -82,25 +73,30 @@ fn airs_over<const P: u32, K: QuarticParameters<P>>(
     text: &[u8],
     batch: &BatchText,
     tables: &[AirTables],
-) -> Result<Vec<AirOver<MontyField31<P, K>>>, JudgeFault> {
+) -> Result<Vec<AirOver<MontyField31<P, K>>>, JudgeFault>
+    ensures { IfOk result (λ v. AreFittingAirs v.items) }
+{
+    let said = airs_of(alloc, batch)?;
+    if said.len() != tables.len() {
+        return Err(JudgeFault::Tables {
+            airs: said.len(),
+            tables: tables.len(),
+        });
+    }
+    let mut airs = Vec::new(alloc);
+    for index in 0..tables.len() {
+        airs.push(air_over(alloc, text, batch, said[index], &tables[index], index)?)?;
+    }
+    Ok(airs)
+}
+
+/// The AIRs among the sections of a batch.
+fn airs_of(alloc: Global, batch: &BatchText) -> Result<Vec<&AirText>, AllocError> {
     let mut airs = Vec::new(alloc);
     for section in &batch.sections {
         if let SectionText::Air(air) = section {
-            let index = airs.len();
-            let Some(own) = tables.get(index) else {
-                return Err(JudgeFault::Tables {
-                    airs: index.saturating_add(1),
-                    tables: tables.len(),
-                });
-            };
-            airs.push(air_over(alloc, text, batch, air, own, index)?)?;
+            airs.push(air)?;
         }
-    }
-    if airs.len() != tables.len() {
-        return Err(JudgeFault::Tables {
-            airs: airs.len(),
-            tables: tables.len(),
-        });
     }
     Ok(airs)
 }
@@ -113,7 +109,9 @@ fn air_over<const P: u32, K: QuarticParameters<P>>(
     air: &AirText,
     tables: &AirTables,
     index: usize,
-) -> Result<AirOver<MontyField31<P, K>>, JudgeFault> {
+) -> Result<AirOver<MontyField31<P, K>>, JudgeFault>
+    ensures { IfOk result IsFittingAir }
+{
     let AirTables { main, preprocessed } = tables;
     let (fixed_names, fixed) = fixed_trace(alloc, preprocessed, index)?;
     if !has_whole_rows(main) {
@@ -199,7 +197,9 @@ fn traces_of<'a, F>(
 fn instances_of<'a, const P: u32, K: QuarticParameters<P>>(
     alloc: Global,
     airs: &'a [AirOver<MontyField31<P, K>>],
-) -> Result<Vec<LookupDebugInstance<'a, MontyField31<P, K>>>, AllocError> {
+) -> Result<Vec<LookupDebugInstance<'a, MontyField31<P, K>>>, AllocError>
+    ensures { IfOk result (λ v. map traced_of v.items ≡ map over_traced airs.now) }
+{
     let mut instances = Vec::new(alloc);
     for air in airs {
         instances.push(LookupDebugInstance {

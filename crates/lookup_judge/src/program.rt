@@ -1,16 +1,15 @@
 //! A run of the program, from its words and files to its status.
-ghost use Rattle.std.specs.Prelude.{◌≡◌, ◌⊎◌, IfOk, OnOk, Result, cond, map, string_bytes};
+ghost use Rattle.std.specs.Prelude.{◌≡◌, ◌⊎◌, IfOk, OnOk, Result, cond, map};
 ghost use Rattle.std.specs.Io.KnownBytes.{Appends};
 ghost use Rattle.std.specs.Process.{exit_status};
-ghost use Rattle.field.specs.Residue.{residue_of};
 ghost use Rattle.lookup_files.specs.Files.{named_of};
 ghost use Rattle.lookup_judge.specs.Runs.{Ends, IsAnswer};
 
-use crate::judge::judge;
+use crate::judgement::judge;
 use crate::page::Page;
 use crate::refusal::RunRefusal;
 use crate::sections::push_report;
-use field::{BabyBear, BabyBearParameters, MontyParameters, PrimeCharacteristicRing};
+use field::BabyBearParameters;
 use lookup_files::{NamedFile, TableFault, read_tables};
 use lookup_text::{TextFault, read_batch};
 use std::alloc::Global;
@@ -46,14 +45,10 @@ pub fn run<W: Write, E: Write>(
     errors: &mut E,
 ) -> ExitCode
     ensures { (answer : Result Answer RunRefusal)
-        × IfOk answer (IsAnswer ⟦<BabyBear as PrimeCharacteristicRing>⟧.ring
-        ⟦<BabyBear as PartialEq>⟧.eq
-        (residue_of 2013265921 ⟦<BabyBearParameters as MontyParameters<2013265921>>⟧.positive)
-        2013265921
-        (map string_bytes words.now) text.now (map named_of files.now))
+        × IfOk answer (IsAnswer 2013265921 text.now (map named_of files.now))
         × Ends W.contents answer (exit_status result) output.old output.new errors.old errors.new }
 {
-    match answer(alloc, words, text, files) {
+    match answer_of(alloc, words, text, files) {
         Ok(answer) => write_answer(&answer, output),
         Err(refusal) => refuse(refusal, errors),
     }
@@ -94,17 +89,13 @@ fn write_and_flush<W: Write>(bytes: &[u8], output: &mut W) -> io::Result<()>
 }
 
 /// What a run answers to its words.
-fn answer(
+fn answer_of(
     alloc: Global,
     words: &[String],
     text: &[u8],
     files: &[NamedFile],
 ) -> Result<Answer, RunRefusal>
-    ensures { IfOk result (IsAnswer ⟦<BabyBear as PrimeCharacteristicRing>⟧.ring
-        ⟦<BabyBear as PartialEq>⟧.eq
-        (residue_of 2013265921 ⟦<BabyBearParameters as MontyParameters<2013265921>>⟧.positive)
-        2013265921
-        (map string_bytes words.now) text.now (map named_of files.now)) }
+    ensures { IfOk result (IsAnswer 2013265921 text.now (map named_of files.now)) }
 {
     let [command, file] = words else {
         return Err(RunRefusal::usage(alloc)?);
@@ -121,7 +112,9 @@ fn check(
     file: &[u8],
     text: &[u8],
     files: &[NamedFile],
-) -> Result<Answer, RunRefusal> {
+) -> Result<Answer, RunRefusal>
+    ensures { IfOk result (IsAnswer 2013265921 text.now (map named_of files.now)) }
+{
     let batch = match read_batch(alloc, text) {
         Ok(batch) => batch,
         Err(TextFault::Memory) => return Err(RunRefusal::Memory),
