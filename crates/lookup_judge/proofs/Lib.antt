@@ -1,1 +1,2 @@
 pub mod FittingLaws
+pub mod VerdictLaws
