@@ -10,15 +10,15 @@ mod fault;
 mod judgement;
 mod mark;
 mod page;
+mod program;
 mod refusal;
 mod report;
-mod program;
 mod sections;
 mod unbalanced;
 mod words;
 
 pub use fault::JudgeFault;
 pub use judgement::judge;
+pub use program::{refuse, run};
 pub use refusal::RunRefusal;
 pub use report::{AirReport, Report};
-pub use program::{refuse, run};

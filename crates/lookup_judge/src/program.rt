@@ -107,12 +107,7 @@ fn answer_of(
 }
 
 /// The report of a batch in the text of a file.
-fn check(
-    alloc: Global,
-    file: &[u8],
-    text: &[u8],
-    files: &[NamedFile],
-) -> Result<Answer, RunRefusal>
+fn check(alloc: Global, file: &[u8], text: &[u8], files: &[NamedFile]) -> Result<Answer, RunRefusal>
     ensures { IfOk result (IsAnswer 2013265921 text.now (map named_of files.now)) }
 {
     let batch = match read_batch(alloc, text) {
