@@ -55,7 +55,7 @@ fn is_on(text: &[u8], lookup: &NamedLookup, bus: &[u8], messages: usize) -> bool
 
 /// Whether a message has this flag, this first value, this count and this weight. A flag of 0 is
 /// none.
-fn sends(part: &NamedPart, flag: u64, first: u64, count: u64, weight: u64) -> bool {
+fn part_sends(part: &NamedPart, flag: u64, first: u64, count: u64, weight: u64) -> bool {
     let flagged = match &part.flag {
         Some(value) => number(value) == flag,
         None => flag == 0,
@@ -66,6 +66,21 @@ fn sends(part: &NamedPart, flag: u64, first: u64, count: u64, weight: u64) -> bo
         .first()
         .is_some_and(|value| number(value) == first);
     flagged && valued && number(&part.message.count) == count && part.message.weight == weight
+}
+
+/// Whether the message of this index does.
+fn sends(
+    lookup: &NamedLookup,
+    index: usize,
+    flag: u64,
+    first: u64,
+    count: u64,
+    weight: u64,
+) -> bool {
+    match lookup.parts.as_slice().get(index) {
+        Some(part) => part_sends(part, flag, first, count, weight),
+        None => false,
+    }
 }
 
 #[test]
@@ -89,12 +104,8 @@ fn memory(rt: HostRuntime) {
         is_on(MEMORY, third, b"gaps", 1) && !third.exclusive,
     );
     let minus = 0u64.wrapping_sub(1);
-    holds(&rt, "a receipt", sends(&first.parts[0], 0, 1000, minus, 1));
-    holds(
-        &rt,
-        "a query",
-        sends(&third.parts[0], 0, 1004 - 1002 - 1, 1, 1),
-    );
+    holds(&rt, "a receipt", sends(first, 0, 0, 1000, minus, 1));
+    holds(&rt, "a query", sends(third, 0, 0, 1004 - 1002 - 1, 1, 1));
     holds(&rt, "no public value", air.public_values.is_empty());
 }
 
@@ -108,13 +119,15 @@ out[0],out[1],x[0],x[1],y[0],y[1]"#;
         return holds(&rt, "it is read", false);
     };
     holds(&rt, "lookups", air.lookups.len() == 15);
-    let group = &air.lookups[9];
+    let Some(group) = air.lookups.as_slice().get(9) else {
+        return holds(&rt, "a tenth lookup", false);
+    };
     holds(
         &rt,
         "a group",
         is_on(PROCESSOR, group, b"and", 2) && group.exclusive,
     );
-    holds(&rt, "its flag", sends(&group.parts[1], 1003, 0, 1, 1));
+    holds(&rt, "its flag", sends(group, 1, 1003, 0, 1, 1));
 }
 
 #[test]
@@ -145,13 +158,9 @@ provide local(q) times 3
         "local",
         is_on(text, group, b"local", 2) && !group.exclusive,
     );
-    holds(&rt, "a definition", sends(&group.parts[0], 0, 4000, 1, 1));
+    holds(&rt, "a definition", sends(group, 0, 0, 4000, 1, 1));
     let minus = 0u64.wrapping_sub(3);
-    holds(
-        &rt,
-        "a public value",
-        sends(&group.parts[1], 0, 3001, minus, 0),
-    );
+    holds(&rt, "a public value", sends(group, 1, 0, 3001, minus, 0));
 }
 
 /// Whether the first AIR of a text, which has the column `a`, is refused at this line and column.
