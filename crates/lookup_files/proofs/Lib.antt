@@ -1,1 +1,2 @@
+pub mod ShapeLaws
 pub mod TableLaws

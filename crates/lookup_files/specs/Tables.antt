@@ -67,16 +67,16 @@ fixed_in (items.message m) = None
 fixed_in (items.together ps) = None
 fixed_in (items.exclusive ps) = None
 
--- a file that is found, unless one was found before it
-abbrev pub more_file : TableWhy → ℕ → Option Span → Option Span → Result (Option Span) TableRefusal
-more_file why at found None = Ok found
-more_file why at None (Some s) = Ok (Some s)
-more_file why at (Some before) (Some s) = refused why at
+-- what is found, unless something was found before it
+abbrev pub one_more : {A : Type 0} → TableWhy → ℕ → Option A → Option A → Result (Option A) TableRefusal
+one_more why at found None = Ok found
+one_more why at None (Some x) = Ok (Some x)
+one_more why at (Some before) (Some x) = refused why at
 
--- the one file that items name, if they name one, after what was found before them
-abbrev pub one_file : (Item → Option Span) → TableWhy → Option Span → List Placed → Result (Option Span) TableRefusal
-one_file kind why found [] = Ok found
-one_file kind why found (p ∷ ps) = more_file why p.at found (kind p.item) >>= λ f. one_file kind why f ps
+-- what one item has, if one has it, after what was found before them
+abbrev pub one_of : {A : Type 0} → (Item → Option A) → TableWhy → Option A → List Placed → Result (Option A) TableRefusal
+one_of kind why found [] = Ok found
+one_of kind why found (p ∷ ps) = one_more why p.at found (kind p.item) >>= λ x. one_of kind why x ps
 
 -- a fault of the text of a file
 abbrev pub of_file : Span → Result Numbers Fault → Result Numbers TableRefusal
@@ -114,9 +114,9 @@ tables_of t = record { main = table_of t.main; preprocessed = option_map table_o
 -- the tables of an AIR
 unfoldable pub air_tables : List ℕ → List File → ℕ → Air → Result TablesOf TableRefusal
 air_tables text files modulus a = do
-  found ← one_file trace_in RepeatedTrace None a.items
+  found ← one_of trace_in RepeatedTrace None a.items
   trace ← named_file a.name.start found
-  fixed ← one_file fixed_in RepeatedPreprocessed None a.items
+  fixed ← one_of fixed_in RepeatedPreprocessed None a.items
   main ← table_named text files modulus trace
   preprocessed ← fixed_table text files modulus fixed
   Ok (record { main = main; preprocessed = preprocessed })

@@ -14,6 +14,16 @@ pub enum TableWhy {
     RepeatedTrace,
     /// The AIR names a second preprocessed trace.
     RepeatedPreprocessed,
+    /// The AIR has no trace, and says no columns.
+    NoColumns,
+    /// The AIR has no trace, and says no height.
+    NoHeight,
+    /// The AIR says its columns a second time.
+    RepeatedColumns,
+    /// The AIR says its height a second time.
+    RepeatedHeight,
+    /// A column has the name of one before it.
+    RepeatedColumn,
     /// The file cannot be read.
     Unreadable,
     /// The text of the file has a fault.

@@ -1,11 +1,13 @@
-//! The files of a batch that is written as text: which files the text names, and the tables in
-//! them.
+//! The files of a batch that is written as text: which files the text names, the tables in them, and
+//! how large traces are that are not there yet.
 #![tactic(auto)]
 
 mod fault;
 mod files;
+mod shapes;
 mod tables;
 
 pub use fault::{TableFault, TableRefusal, TableWhy};
 pub use files::{NamedFile, files_of};
+pub use shapes::{AirShape, read_shapes};
 pub use tables::{AirTables, read_tables};

@@ -1,10 +1,10 @@
 //! The tables of the AIRs of a batch, from the bytes of their files.
-ghost use Rattle.std.specs.Prelude.{◌≡◌, map, option_map};
+ghost use Rattle.std.specs.Prelude.{◌≡◌, None, Some, map};
 ghost use Rattle.lookup_text.specs.Batches.{air_of, section_of};
 ghost use Rattle.lookup_text.specs.Items.{item_of, placed_of};
 ghost use Rattle.lookup_text.specs.Tables.{table_of};
 ghost use Rattle.lookup_files.specs.Files.{named_of};
-ghost use Rattle.lookup_files.specs.Tables.{Gives, air_tables, all_tables, fixed_in, fixed_table, named_file, one_file, table_named, tables_of, trace_in};
+ghost use Rattle.lookup_files.specs.Tables.{Gives, air_tables, all_tables, fixed_in, one_more, one_of, table_named, tables_of, trace_in};
 
 use crate::fault::{TableFault, TableRefusal, TableWhy};
 use crate::files::{NamedFile, content_of};
@@ -70,40 +70,49 @@ fn read_air(
 }
 
 /// The file of the one trace that items name, if they name one.
-fn one_trace(items: &[PlacedItem]) -> Result<Option<Span>, TableFault>
+pub(crate) fn one_trace(items: &[PlacedItem]) -> Result<Option<Span>, TableFault>
     ensures { Gives (λ f. f) result
-        (one_file trace_in TableWhy.RepeatedTrace None (map placed_of items.now)) }
+        (one_of trace_in TableWhy.RepeatedTrace None (map placed_of items.now)) }
 {
     let mut found = None;
     for item in items {
         if let ItemText::Trace(file) = &item.item {
-            if found.is_some() {
-                return Err(refused(TableWhy::RepeatedTrace, item.at));
-            }
-            found = Some(*file);
+            found = Some(first(found, *file, TableWhy::RepeatedTrace, item.at)?);
         }
     }
     Ok(found)
 }
 
 /// The file of the one preprocessed trace that items name, if they name one.
-fn one_preprocessed(items: &[PlacedItem]) -> Result<Option<Span>, TableFault>
+pub(crate) fn one_preprocessed(items: &[PlacedItem]) -> Result<Option<Span>, TableFault>
     ensures { Gives (λ f. f) result
-        (one_file fixed_in TableWhy.RepeatedPreprocessed None (map placed_of items.now)) }
+        (one_of fixed_in TableWhy.RepeatedPreprocessed None (map placed_of items.now)) }
 {
     let mut found = None;
     for item in items {
         if let ItemText::Preprocessed(file) = &item.item {
-            if found.is_some() {
-                return Err(refused(TableWhy::RepeatedPreprocessed, item.at));
-            }
-            found = Some(*file);
+            found = Some(first(found, *file, TableWhy::RepeatedPreprocessed, item.at)?);
         }
     }
     Ok(found)
 }
 
-fn refused(why: TableWhy, at: usize) -> TableFault
+/// What an item has, unless something was found before it.
+pub(crate) fn first<T: Drop>(
+    found: Option<T>,
+    item: T,
+    why: TableWhy,
+    at: usize,
+) -> Result<T, TableFault>
+    ensures { Gives Some result (one_more why at found (Some item)) }
+{
+    match found {
+        None => Ok(item),
+        Some(_) => Err(refused(why, at)),
+    }
+}
+
+pub(crate) fn refused(why: TableWhy, at: usize) -> TableFault
     ensures { result ≡ TableFault.Refused (record { file = None; at = at; why = why }) }
 {
     TableFault::Refused(TableRefusal {
@@ -115,7 +124,7 @@ fn refused(why: TableWhy, at: usize) -> TableFault
 
 /// The table in the file that is named here.
 #[tactic(auto, unfolding(crate::specs::Tables::table_named))]
-fn table_named(
+pub(crate) fn table_named(
     alloc: Global,
     text: &[u8],
     files: &[NamedFile],

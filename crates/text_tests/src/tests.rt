@@ -8,6 +8,7 @@ mod names;
 mod show;
 mod tables;
 mod tokens;
+mod words;
 
 use lookup_text::{Place, TextFault, Why, place_of};
 use std::process::Abort;

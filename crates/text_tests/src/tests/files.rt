@@ -2,7 +2,8 @@
 use super::examples::{MEMORY, PROCESSOR};
 use super::holds;
 use lookup_files::{
-    AirTables, NamedFile, TableFault, TableRefusal, TableWhy, files_of, read_tables,
+    AirShape, AirTables, NamedFile, TableFault, TableRefusal, TableWhy, files_of, read_shapes,
+    read_tables,
 };
 use lookup_text::{BatchText, Why, read_batch};
 use std::alloc::{AllocError, Global};
@@ -146,4 +147,66 @@ fn refusals(rt: HostRuntime) {
         "a fault",
         refused(alloc, text, true, 2, TableWhy::Text(Why::Number)),
     );
+}
+
+/// The shapes of a text over the same files, or why not. `None` where the text is not read.
+fn shapes(alloc: Global, text: &[u8]) -> Option<Result<Vec<AirShape>, TableFault>> {
+    let batch = read_batch(alloc, text).ok()?;
+    let files = some_files(alloc).ok()?;
+    Some(read_shapes(alloc, text, &batch, files.as_slice(), 7))
+}
+
+/// Whether a shape has so many columns, so many preprocessed ones, and so many rows.
+fn has_sizes(shape: &AirShape, columns: usize, preprocessed: usize, rows: u64) -> bool {
+    shape.columns.len() == columns && shape.preprocessed.len() == preprocessed && shape.rows == rows
+}
+
+#[test]
+fn shapes_of_airs(rt: HostRuntime) {
+    let alloc = rt.alloc();
+    let text = br#"air t {
+trace "t.csv"
+height 9
+}
+air u {
+height 9
+preprocessed "t.csv"
+columns (x, y, z)
+}"#;
+    let Some(Ok(shapes)) = shapes(alloc, text) else {
+        return holds(&rt, "they are read", false);
+    };
+    let [first, second] = shapes.as_slice() else {
+        return holds(&rt, "two AIRs", false);
+    };
+    holds(&rt, "those of a table", has_sizes(first, 2, 0, 2));
+    holds(&rt, "those that are said", has_sizes(second, 3, 2, 9));
+    match second.columns.last() {
+        Some(name) => holds(&rt, "a name", is(name, b"z")),
+        None => holds(&rt, "columns", false),
+    }
+}
+
+/// Whether the shapes of a text are refused so, at this byte.
+fn has_no_shape(alloc: Global, text: &[u8], at: usize, why: TableWhy) -> bool {
+    match shapes(alloc, text) {
+        Some(Err(TableFault::Refused(refusal))) => (refusal.at, refusal.why) == (at, why),
+        _ => false,
+    }
+}
+
+#[test]
+fn faults_of_shapes(rt: HostRuntime) {
+    let alloc = rt.alloc();
+    let no = |text: &[u8], at, why| has_no_shape(alloc, text, at, why);
+    let text = b"air t {\nheight 9\n}";
+    holds(&rt, "no columns", no(text, 4, TableWhy::NoColumns));
+    let text = b"air t {\ncolumns (x)\n}";
+    holds(&rt, "no height", no(text, 4, TableWhy::NoHeight));
+    let text = b"air t {\nheight 9\nheight 9\n}";
+    holds(&rt, "two heights", no(text, 17, TableWhy::RepeatedHeight));
+    let text = b"air t {\ncolumns (x)\ncolumns (y)\n}";
+    holds(&rt, "two lists", no(text, 20, TableWhy::RepeatedColumns));
+    let text = b"air t {\nheight 9\ncolumns (x, y, x)\n}";
+    holds(&rt, "two names", no(text, 32, TableWhy::RepeatedColumn));
 }

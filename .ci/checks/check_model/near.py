@@ -1,0 +1,43 @@
+"""Names that differ by one letter from one that is there."""
+from . import meaning
+from .reading import Air, Bus, Fault, tokens_of
+
+LONGEST = 64
+
+
+def is_near(left, right):
+    """Whether one byte put in, taken out or changed makes one name the other. Long names, and those of one letter, are not compared."""
+    if max(len(left), len(right)) > LONGEST or min(len(left), len(right)) < 2 or left == right:
+        return False
+    if len(left) == len(right):
+        return sum(pair[0] != pair[1] for pair in zip(left, right)) == 1
+    long, short = (left, right) if len(left) > len(right) else (right, left)
+    return any(long[:at] + long[at + 1 :] == short for at in range(len(long)))
+
+
+def name_at(text, at):
+    """The name that stands at a byte of a text, with or without backquotes."""
+    return next(token.text for token in tokens_of(text) if token.at == at)
+
+
+def candidates(sections, folder, at, why):
+    """The names that could stand at a byte of the text, in the order in which they are compared."""
+    if why == "UndeclaredBus":
+        return [section.name for section in sections if isinstance(section, Bus)]
+    if why not in ("UnknownName", "UnknownColumn"):
+        return []
+    air = [section for section in sections if isinstance(section, Air) and section.at <= at][-1]
+    main, fixed = meaning.shapes_of(folder, air)
+    names = [*main.names, *(b"pre." + name for name in (fixed.names if fixed else []))]
+    if why == "UnknownName":
+        names += [item.said[1] for item in air.items if item.kind in ("let", "public") and item.at < at]
+    return names
+
+
+def near_name(sections, folder, text, at, why):
+    """The first name that is near the one at a byte of the text, or None."""
+    try:
+        names = candidates(sections, folder, at, why)
+        return next((other for other in names if is_near(other, name_at(text, at))), None)
+    except (Fault, meaning.TableFault):
+        return None

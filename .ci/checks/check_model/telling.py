@@ -1,0 +1,286 @@
+"""How a report and a refusal are written."""
+from . import counting
+from .reading import ASKED, FIELDS, MARK, ask
+
+# How many unbalanced tuples of a bus are compared, where fewer are told.
+COMPARED = 64
+LONGEST_LINE = 200
+NAME_BYTES = b"abcdefghijklmnopqrstuvwxyzABCDEFGHIJKLMNOPQRSTUVWXYZ0123456789_.[]"
+
+WHY = {
+    "Unclosed": "this quote is not closed on its line",
+    "Strange": "this stands for nothing here",
+    "LongNumber": "this number is not below 2^64",
+    "Deep": "this expression has more than 1,024 layers",
+    "Expression": "expected an expression",
+    "Column": "expected a column",
+    "Number": "expected a number",
+    "Exponent": "expected an exponent from 1 to 64",
+    "Header": "expected the names of columns",
+    "EmptyName": "this column has no name",
+    "RepeatedName": "a column before this one has the same name",
+    "LargeNumber": "this number is not below the characteristic",
+    "MissingCell": "this line has too few numbers",
+    "ExtraCell": "this line has too many numbers",
+    "File": "expected a file in double quotes",
+    "Line": "expected the end of the line",
+    "Name": "expected a name",
+    "Bus": "expected a bus, or `local`",
+    "Most": "expected `most`",
+    "Verb": "expected `query`, `provide`, `send` or `receive`",
+    "When": "expected `when`",
+    "Item": "this begins no line of an AIR",
+    "Section": "expected `bus` or `air`",
+    "UnknownName": "no column, public value or definition has this name",
+    "UnknownColumn": "no column has this name",
+    "NoWeight": "how often this counts depends on the row: add `at most N`, the most on one row",
+    "LargeExpression": "the expressions up to here have more than 1,048,576 nodes",
+    "DeepExpression": "with what its names stand for, this has more than 1,024 layers",
+    "RepeatedDefinition": "a definition before this one has the same name",
+    "RepeatedBus": "a bus was declared before with this name",
+    "UndeclaredBus": "no bus is declared with this name",
+    "TupleWidth": "this bus carries another number of values",
+    "OtherBus": "this message is on another bus than the first of its group",
+    "EmptyGroup": "this group has no message",
+    "LookupsFile": "lookups from a file are not read",
+    "BusName": "the name of a bus has to be UTF-8",
+    "Weight": "these weights do not fit 64 bits",
+    "NoTrace": "this AIR has no trace",
+    "RepeatedTrace": "this AIR has a trace already",
+    "RepeatedPreprocessed": "this AIR has a preprocessed trace already",
+    "Unreadable": "this file cannot be read",
+    "NoColumns": "this AIR has no trace, and says no `columns`",
+    "NoHeight": "this AIR has no trace, and says no `height`",
+    "RepeatedColumns": "this AIR says its columns already",
+    "RepeatedHeight": "this AIR says its height already",
+    "RepeatedColumn": "a column before this one has the same name",
+    "Heights": "the two tables of this AIR do not have the same number of rows",
+}
+
+
+def why_text(why):
+    return f"expected `{why[5:]}`" if why.startswith("Sign ") else WHY[why]
+
+
+def shown(text):
+    """Bytes of a file, with a question mark for each control character."""
+    return bytes(ord("?") if byte < 32 or byte == 127 else byte for byte in text)
+
+
+def characters(text):
+    """How many characters some bytes have."""
+    return sum(byte & 0xC0 != 0x80 for byte in text)
+
+
+def grouped(number):
+    return f"{number:,}".encode()
+
+
+# --- refusals ---
+
+
+def line_of(text, at):
+    return text.count(b"\n", 0, at) + 1
+
+
+def around(text, at):
+    """The line of a byte without a byte-order mark at the front of the text, and how many of its bytes are before."""
+    start = text.rfind(b"\n", 0, at) + 1
+    end = text.find(b"\n", at)
+    line = text[start : len(text) if end < 0 else end]
+    before = at - start
+    if start == 0 and line.startswith(MARK):
+        line, before = line[len(MARK) :], max(0, before - len(MARK))
+    return line, before
+
+
+def refused_at(file, text, at, why, meant=None):
+    """A refusal with its place, the line there and a mark below, with the name that was meant, if one is near."""
+    line, before = around(text, at)
+    column = characters(line[:before]) + 1
+    told = b"%s:%d:%d: error: %s\n" % (shown(file), line_of(text, at), column, why_text(why).encode())
+    if not line or len(line) > LONGEST_LINE:
+        return told
+    visible = b"\t".join(shown(part.replace(b"\r", b"")) for part in line.split(b"\t"))
+    blanks = b"\t".join(b" " * characters(part) for part in line[:before].split(b"\t"))
+    rest = line[before:]
+    marked = len(rest) - len(rest.lstrip(NAME_BYTES))
+    hint = b"" if meant is None else b" did you mean `%s`?" % shown(meant)
+    return told + b"%5d | %s\n      | %s%s%s\n" % (line_of(text, at), visible, blanks, b"^" * max(1, marked), hint)
+
+
+def refused(file, what):
+    """A refusal of a whole file."""
+    return b"%s: error: %s\n" % (shown(file), what.encode())
+
+
+def flags_refused(file, text, air, fault):
+    trace = next(item.said[1] for item in air.items if item.kind == "trace")
+    lookups = [item for item in air.items if item.kind in ("message", "together", "exclusive")]
+    line = line_of(text, lookups[fault.lookup].at)
+    what = "1 on this row, and so is another one" if fault.several else "neither 0 nor 1 on this row"
+    place = b"%s:%d: error: a flag of %s:%d" % (shown(trace), fault.row + 2, shown(file), line)
+    return b"%s is %s\n" % (place, what.encode())
+
+
+# --- reports ---
+
+
+def table(titles, lines, right):
+    """Lines of cells below titles, each column as wide as its widest cell; some are set to the right."""
+    lines = [[title.encode() for title in titles], *lines]
+    widths = [max(characters(line[column]) for line in lines) for column in range(len(titles))]
+    told = b""
+    for line in lines:
+        for column, cell in enumerate(line):
+            blanks = b" " * (widths[column] - characters(cell))
+            last = column == len(line) - 1
+            told += b"  " + (blanks + cell if column in right else cell + (b"" if last else blanks))
+        told += b"\n"
+    return told
+
+
+def airs_told(airs):
+    lines = []
+    for air in airs:
+        degrees = [counting.lookup_degree(it.branches, it.exclusive) for it in air.lookups]
+        packed = counting.packed_degrees(air.lookups)
+        numbers = [len(air.main.rows), len(air.main.names), len(degrees), sum(it.weight for it in air.lookups)]
+        cells = [shown(air.said.name), *map(grouped, numbers), spaced(degrees), grouped(len(packed)), spaced(packed)]
+        lines.append(cells)
+    titles = ["air", "rows", "columns", "lookups", "weight", "degrees", "packed", "degrees"]
+    return b"AIRS (packed: within degree %d)\n" % ASKED.degree + table(titles, lines, {1, 2, 3, 4, 6})
+
+
+def spaced(numbers):
+    return " ".join(map(str, numbers)).encode()
+
+
+def heights_told(airs):
+    total, ids, widest = counting.height_sum(airs), len(counting.names_of_groups(airs)), counting.widest_of(airs)
+    sums = b"\nHEIGHT BOUND  weights times heights: %s of %s\n" % (grouped(total), grouped(ASKED.characteristic))
+    return sums + b"              ids: %s, widest tuple: %s\n" % (grouped(ids), grouped(widest))
+
+
+def group_name(airs, name):
+    if isinstance(name, bytes):
+        return shown(name)
+    air, lookup = name
+    return b"local %s %d" % (shown(airs[air].said.name), lookup)
+
+
+def buses_told(airs, declared, groups):
+    lines = []
+    for group in groups:
+        fields = declared.get(group.name, [])
+        received = sum(counting.is_negative(sent.count) for sent in group.sent)
+        numbers = [len(group.sent) - received, received, len(group.nets)]
+        unbalanced = grouped(len(group.unbalanced)) if group.unbalanced else b"-"
+        carries = b", ".join(map(shown, fields))
+        lines.append([group_name(airs, group.name), carries, *map(grouped, numbers), unbalanced])
+    titles = ["bus", "carries", "sent", "received", "distinct", "unbalanced"]
+    return b"\nBUSES (messages whose count is not zero)\n" + table(titles, lines, {2, 3, 4, 5})
+
+
+def signed(number):
+    return number - ASKED.characteristic if counting.is_negative(number) else number
+
+
+def near_told(fields, group, values, net):
+    """The first tuple that differs in one value and is off by as much the other way, of the first ones."""
+    for others, other_net, _ in group.unbalanced[: max(COMPARED, ASKED.limit)]:
+        places = [place for place, pair in enumerate(zip(values, others)) if pair[0] != pair[1]]
+        if len(values) == len(others) and len(places) == 1 and (net + other_net) % ASKED.characteristic == 0:
+            (place,) = places
+            name = shown(fields[place]) if place < len(fields) else b"value %d" % place
+            told = b"           differs only in %s from (%s), which is off by as much the other way\n"
+            return told % (name, tuple_told(fields, others))
+    return b""
+
+
+def tuple_told(fields, values):
+    names = [shown(field) + b" " for field in fields] or [b""] * len(values)
+    return b", ".join(b"%s%d" % pair for pair in zip(names, values))
+
+
+def unbalanced_told(text, airs, declared, group):
+    told, fields = b"", declared.get(group.name, [])
+    for values, net, places in group.unbalanced[: ASKED.limit]:
+        how = b"received or provided" if signed(net) < 0 else b"sent or queried"
+        told += b"\nUNBALANCED on %s: (%s) is %s too often, by %s\n" % (
+            group_name(airs, group.name), tuple_told(fields, values), how, grouped(abs(signed(net))),
+        )  # fmt: skip
+        for sent in places[: ASKED.limit]:
+            air = airs[sent.air]
+            lookup = air.lookups[sent.lookup]
+            file = next(item.said[1] for item in air.said.items if item.kind == "trace")
+            place = (grouped(signed(sent.count)), shown(file), sent.row + 2)
+            told += b"%10b at %s:%d, " % place + b"%s of line %d\n" % (lookup.word.encode(), line_of(text, lookup.at))
+        if len(places) > ASKED.limit:
+            told += b"           and %s more places\n" % grouped(len(places) - ASKED.limit)
+        told += near_told(fields, group, values, net)
+    if len(group.unbalanced) > ASKED.limit:
+        more = grouped(len(group.unbalanced) - ASKED.limit), group_name(airs, group.name)
+        told += b"\n  and %s more unbalanced tuples on %s\n" % more
+    return told
+
+
+def bits_told(betas, alphas):
+    return b"    challenges in %s: %d bits\n" % (ASKED.challenges.encode(), counting.bits_of(betas, alphas))
+
+
+def soundness_told(airs, messages):
+    keys, unbalanced = counting.key_counts(airs, messages)
+    widest = counting.widest_of(airs)
+    numbers = tuple(map(grouped, (keys, unbalanced, widest)))
+    told = b"\nSOUNDNESS\n  these traces: n = %s distinct messages, k = %s of them unbalanced, " % numbers[:2]
+    told += b"widest tuple W = %s\n" % numbers[2]
+    if unbalanced:
+        betas, alphas = widest * (unbalanced - 1), keys + unbalanced - 1
+        left = (grouped(betas), grouped(alphas))
+        told += b"    all but %s betas leave at most %s alphas at which any witness is accepted\n" % left
+        told += bits_told(betas, alphas)
+    return told + all_traces_told(airs)
+
+
+def all_traces_told(airs):
+    widest, most = counting.widest_of(airs), counting.most_messages(airs)
+    told = b"  whatever traces of these heights a prover picks: at most %s messages\n" % grouped(most)
+    if most:
+        betas, alphas = widest * (most - 1), 2 * most - 1
+        left = (grouped(betas), grouped(alphas))
+        told += b"    if they do not balance, all but %s betas leave at most %s alphas\n" % left
+        told += bits_told(betas, alphas)
+    return told
+
+
+def plan_told(airs):
+    """What is told of a batch before any trace is seen."""
+    return airs_told(airs) + heights_told(airs) + b"\nSOUNDNESS\n" + all_traces_told(airs)
+
+
+def bits_table_told(messages, unbalanced, widest):
+    """How many bits are left in each field."""
+    numbers = tuple(map(grouped, (messages, unbalanced, widest)))
+    told = b"n = %s distinct messages, k = %s of them unbalanced, widest tuple W = %s\n" % numbers
+    if not unbalanced:
+        return told + b"  all messages balance, so there is nothing to be wrong about\n"
+    betas, alphas = widest * (unbalanced - 1), messages + unbalanced - 1
+    left = (grouped(betas), grouped(alphas))
+    told += b"  all but %s betas leave at most %s alphas at which any witness is accepted\n" % left
+    lines = []
+    for field in FIELDS:
+        ask(field)
+        lines.append([ASKED.challenges.encode(), grouped(counting.bits_of(betas, alphas))])
+    return told + table(["challenges in", "bits"], lines, {1})
+
+
+def report_told(text, airs, declared, messages):
+    """A report, and whether all messages balance."""
+    groups = counting.groups_of(airs, messages)
+    told = airs_told(airs) + heights_told(airs) + buses_told(airs, declared, groups)
+    told += b"".join(unbalanced_told(text, airs, declared, group) for group in groups)
+    told += soundness_told(airs, messages)
+    if any(group.unbalanced for group in groups):
+        return told + b"\nNOT BALANCED\n", False
+    return told + b"\nBALANCED: every tuple of every bus and local lookup cancels\n", True

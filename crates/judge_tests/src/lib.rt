@@ -1,0 +1,8 @@
+//! The tests of `lookup_elements` and `lookup_judge`, in a crate of their own: a crate that has tests
+//! is proved twice.
+//!
+//! They show what no contract says: that calls succeed. What the program writes is in `cases/check/`.
+#![tactic(auto)]
+
+#[cfg(test)]
+mod tests;

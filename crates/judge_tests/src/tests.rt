@@ -1,0 +1,10 @@
+//! Texts over fields, and whole runs.
+mod elements;
+mod judgements;
+mod runs;
+
+use std::process::Abort;
+
+fn holds(rt: &impl Abort, what: &str, fact: bool) {
+    assert!(rt; fact, "{what}");
+}

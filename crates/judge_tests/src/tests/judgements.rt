@@ -1,0 +1,101 @@
+//! Batches, judged.
+use super::holds;
+use field::BabyBearParameters;
+use lookup_files::{NamedFile, read_shapes, read_tables};
+use lookup_judge::{PlanReport, Report, judge, judge_plan};
+use lookup_text::{BatchText, read_batch};
+use std::alloc::{AllocError, Global};
+
+const MODULUS: u32 = 2_013_265_921;
+
+/// Two AIRs on one bus: what the first sends the second receives, but for the 3.
+pub(crate) const TEXT: &[u8] = b"bus b(value)
+air sender {
+trace \"sent.csv\"
+send b(x)
+}
+air receiver {
+trace \"received.csv\"
+receive b(x)
+}";
+
+/// The files of that text.
+pub(crate) fn files(alloc: Global, received: &[u8]) -> Result<Vec<NamedFile>, AllocError> {
+    let sent = NamedFile {
+        name: Vec::from_slice(alloc, b"sent.csv")?,
+        content: Some(Vec::from_slice(alloc, b"x\n1\n2\n3\n")?),
+    };
+    let received = NamedFile {
+        name: Vec::from_slice(alloc, b"received.csv")?,
+        content: Some(Vec::from_slice(alloc, received)?),
+    };
+    Ok(Vec::from_array(alloc, [sent, received])?)
+}
+
+/// What is found over those files.
+fn found(alloc: Global, received: &[u8]) -> Option<Report<field::BabyBear>> {
+    let batch: BatchText = read_batch(alloc, TEXT).ok()?;
+    let files = files(alloc, received).ok()?;
+    let tables = read_tables(alloc, TEXT, &batch, &files, u64::from(MODULUS)).ok()?;
+    judge::<MODULUS, BabyBearParameters>(alloc, TEXT, &batch, &tables, 4, 3).ok()
+}
+
+// Each of both lookups has degree 2 and weight 1, on three rows.
+#[test]
+fn batches(rt: HostRuntime) {
+    let Some(report) = found(rt.alloc(), b"x\n3\n1\n2\n") else {
+        return holds(&rt, "the batch is judged", false);
+    };
+    holds(
+        &rt,
+        "it balances",
+        report.balanced && report.counts.unbalanced == 0,
+    );
+    holds(&rt, "three messages", report.counts.messages == 3);
+    holds(&rt, "the height bound", report.plan.height_sum == 6);
+    let Some(report) = found(rt.alloc(), b"x\n4\n1\n2\n") else {
+        return holds(&rt, "the other batch is judged", false);
+    };
+    holds(&rt, "it does not balance", !report.balanced);
+    holds(
+        &rt,
+        "3 and 4 do not",
+        report.counts.unbalanced == 2 && report.counts.messages == 4,
+    );
+}
+
+/// A batch that has no trace yet: on 5 rows two messages, which share a column within degree 3.
+const PLANNED: &[u8] = b"air a {
+height 5
+columns (x, y)
+query b(x)
+query b(y)
+}";
+
+fn plan(alloc: Global) -> Option<PlanReport> {
+    let batch = read_batch(alloc, PLANNED).ok()?;
+    let shapes = read_shapes(alloc, PLANNED, &batch, &[], u64::from(MODULUS)).ok()?;
+    judge_plan::<MODULUS, BabyBearParameters>(alloc, PLANNED, &batch, &shapes, 3).ok()
+}
+
+#[test]
+fn plans(rt: HostRuntime) {
+    let Some(report) = plan(rt.alloc()) else {
+        return holds(&rt, "the plan is judged", false);
+    };
+    let Some(air) = report.airs.first() else {
+        return holds(&rt, "an AIR", false);
+    };
+    holds(
+        &rt,
+        "its size",
+        (air.rows, air.columns, air.weight) == (5, 2, 2),
+    );
+    holds(
+        &rt,
+        "its degrees",
+        air.degrees.as_slice() == [2, 2].as_slice(),
+    );
+    holds(&rt, "one column", air.packed.as_slice() == [3].as_slice());
+    holds(&rt, "its messages", report.heights.most_messages == 10);
+}

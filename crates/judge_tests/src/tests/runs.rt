@@ -1,0 +1,105 @@
+//! Whole runs, over streams in memory.
+use super::holds;
+use super::judgements::{TEXT, files};
+use lookup_judge::{RunRefusal, refuse, run};
+use std::alloc::{AllocError, Global};
+use std::process::ExitCode;
+
+/// What a run ends with: its status, and all that it wrote.
+#[derive(Drop)]
+struct End {
+    status: ExitCode,
+    output: Vec<u8>,
+    errors: Vec<u8>,
+}
+
+/// The end of a run of these words.
+fn end_of(alloc: Global, words: &[&str], received: &[u8]) -> Result<End, AllocError> {
+    let mut given = Vec::new(alloc);
+    for word in words {
+        given.push(String::from_str(alloc, word)?)?;
+    }
+    let files = files(alloc, received)?;
+    let (mut output, mut errors) = (Vec::new(alloc), Vec::new(alloc));
+    let status = run(alloc, &given, TEXT, &files, &mut output, &mut errors);
+    Ok(End {
+        status,
+        output,
+        errors,
+    })
+}
+
+/// Whether a run ends with this status, with an output or else with an error.
+fn ends(alloc: Global, words: &[&str], received: &[u8], status: u8) -> bool {
+    match end_of(alloc, words, received) {
+        Ok(end) => {
+            end.status == ExitCode::from(status)
+                && end.output.is_empty() == (status == 2)
+                && end.errors.is_empty() == (status != 2)
+        }
+        Err(_) => false,
+    }
+}
+
+#[test]
+fn verdicts(rt: HostRuntime) {
+    let alloc = rt.alloc();
+    let check = ["check", "batch.lookups"];
+    holds(&rt, "balanced", ends(alloc, &check, b"x\n3\n1\n2\n", 0));
+    holds(&rt, "unbalanced", ends(alloc, &check, b"x\n4\n1\n2\n", 1));
+    holds(&rt, "fewer rows", ends(alloc, &check, b"x\n4\n1\n", 1));
+    holds(&rt, "no number", ends(alloc, &check, b"x\n4\n1\ny\n", 2));
+    let over = ["check", "batch.lookups", "--field", "koalabear4"];
+    holds(
+        &rt,
+        "over KoalaBear",
+        ends(alloc, &over, b"x\n3\n1\n2\n", 0),
+    );
+}
+
+#[test]
+fn commands(rt: HostRuntime) {
+    let alloc = rt.alloc();
+    let received = b"x\n3\n1\n2\n";
+    holds(&rt, "plan", ends(alloc, &["plan", "f"], received, 0));
+    holds(
+        &rt,
+        "pack",
+        ends(alloc, &["pack", "f", "--degree", "2"], received, 0),
+    );
+    holds(&rt, "show", ends(alloc, &["show", "f"], received, 0));
+    holds(
+        &rt,
+        "show as JSON",
+        ends(alloc, &["show", "f", "--json"], received, 0),
+    );
+    holds(
+        &rt,
+        "bits",
+        ends(alloc, &["bits", "--messages", "8"], received, 0),
+    );
+    holds(&rt, "help", ends(alloc, &["--help"], received, 0));
+    holds(&rt, "no words", ends(alloc, &[], received, 2));
+}
+
+#[test]
+fn refusals(rt: HostRuntime) {
+    let mut errors = Vec::new(rt.alloc());
+    let status = refuse(RunRefusal::Memory, &mut errors);
+    holds(&rt, "the status", status == ExitCode::from(2));
+    holds(
+        &rt,
+        "the line",
+        errors.as_slice() == b"error: out of memory\n".as_slice(),
+    );
+    match RunRefusal::of_file(rt.alloc(), b"a.csv", "cannot be read") {
+        Ok(RunRefusal::Told(told)) => {
+            holds(
+                &rt,
+                "a file",
+                told.as_slice() == b"a.csv: error: cannot be read\n".as_slice(),
+            );
+        }
+        _ => holds(&rt, "memory", false),
+    }
+}

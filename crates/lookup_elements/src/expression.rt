@@ -1,0 +1,63 @@
+//! Values as expressions over a field.
+ghost use Rattle.std.specs.Prelude.{◌≡◌, IfOk};
+ghost use Rattle.expressions.specs.Tree.{tree_of};
+ghost use Rattle.field.specs.Residue.{residue_of};
+ghost use Rattle.lookup_names.specs.Values.{meant_of};
+ghost use Rattle.lookup_elements.specs.Expressions.{cell_in, tree_in};
+
+use crate::element::element_of;
+use expressions::{BaseEntry, BaseLeaf, SymbolicExpression, SymbolicVariable};
+use field::{MontyField31, MontyParameters};
+use lookup_names::Value;
+use std::alloc::{AllocError, Global};
+
+/// A value as an expression. A number counts modulo the characteristic.
+///
+/// Fails only when out of memory.
+pub fn expression_of<const P: u32, K: MontyParameters<P>>(
+    alloc: Global,
+    value: &Value,
+) -> Result<SymbolicExpression<MontyField31<P, K>>, AllocError>
+    ensures { IfOk result (λ r. tree_of r
+        ≡ tree_in (residue_of P K.positive) (meant_of value.now)) }
+{
+    match value {
+        Value::Main { offset, column } => Ok(cell(BaseEntry::Main { offset: *offset }, *column)),
+        Value::Preprocessed { offset, column } => {
+            Ok(cell(BaseEntry::Preprocessed { offset: *offset }, *column))
+        }
+        Value::Public(index) => Ok(cell(BaseEntry::Public, *index)),
+        Value::FirstRow => Ok(SymbolicExpression::Leaf(BaseLeaf::IsFirstRow)),
+        Value::LastRow => Ok(SymbolicExpression::Leaf(BaseLeaf::IsLastRow)),
+        Value::Transition => Ok(SymbolicExpression::Leaf(BaseLeaf::IsTransition)),
+        Value::Number(number) => {
+            Ok(SymbolicExpression::Leaf(BaseLeaf::Constant(element_of(*number))))
+        }
+        Value::Negative(inner) => {
+            let inner = expression_of(alloc, inner)?;
+            Ok(SymbolicExpression::Neg(Box::new(alloc, inner)?))
+        }
+        Value::Sum(left, right) => {
+            let left = expression_of(alloc, left)?;
+            let right = expression_of(alloc, right)?;
+            Ok(SymbolicExpression::Add(Box::new(alloc, left)?, Box::new(alloc, right)?))
+        }
+        Value::Difference(left, right) => {
+            let left = expression_of(alloc, left)?;
+            let right = expression_of(alloc, right)?;
+            Ok(SymbolicExpression::Sub(Box::new(alloc, left)?, Box::new(alloc, right)?))
+        }
+        Value::Product(left, right) => {
+            let left = expression_of(alloc, left)?;
+            let right = expression_of(alloc, right)?;
+            Ok(SymbolicExpression::Mul(Box::new(alloc, left)?, Box::new(alloc, right)?))
+        }
+    }
+}
+
+/// A cell of a window, or a public value.
+fn cell<F>(entry: BaseEntry, index: usize) -> SymbolicExpression<F>
+    ensures { tree_of result ≡ cell_in entry index }
+{
+    SymbolicExpression::Leaf(BaseLeaf::Variable(SymbolicVariable::new(entry, index)))
+}

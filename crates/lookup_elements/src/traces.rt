@@ -1,0 +1,35 @@
+//! Tables as traces over a field.
+ghost use Rattle.std.specs.Prelude.{◌≡◌, ◌↔◌, IfOk, IsTrue, length, map};
+ghost use Rattle.field.specs.Residue.{residue_of};
+ghost use Rattle.matrix.specs.Matrix.{IsShaped};
+ghost use Rattle.lookup_elements.specs.Traces.{HasWholeRows};
+
+use crate::element::elements_of;
+use field::{MontyField31, MontyParameters};
+use lookup_text::Table;
+use matrix::RowMajorMatrix;
+use std::alloc::{AllocError, Global};
+
+/// Whether a table has columns and rows, and each row has a number for each column.
+pub fn has_whole_rows(table: &Table) -> bool
+    ensures { IsTrue result ↔ HasWholeRows (length table.now.names.items)
+        (length table.now.cells.items) }
+{
+    let width = table.names.len();
+    width > 0 && !table.cells.is_empty() && table.cells.len() % width == 0
+}
+
+/// The trace of a table with whole rows. Fails only when out of memory.
+pub fn matrix_of<const P: u32, K: MontyParameters<P>>(
+    alloc: Global,
+    table: &Table,
+) -> Result<RowMajorMatrix<MontyField31<P, K>>, AllocError>
+    requires { HasWholeRows (length table.now.names.items) (length table.now.cells.items) }
+    ensures { IfOk result (λ m. m ≡ record {
+      values = map (residue_of P K.positive) table.now.cells.items;
+      width = length table.now.names.items;
+    }) }
+{
+    let elements = elements_of(alloc, &table.cells)?;
+    Ok(RowMajorMatrix::new(elements, table.names.len()))
+}

@@ -1,0 +1,5 @@
+pub mod AirLaws
+pub mod FittingLaws
+pub mod JudgeLaws
+pub mod SizeLaws
+pub mod VerdictLaws

@@ -1,0 +1,39 @@
+use Rattle.std.proofs.Common.{◌∙◌, ap, arith, length, map, subst, sym}
+use Rattle.std.specs.List.{AllZip}
+use Rattle.std.proofs.lemmas.List.{length-map}
+use Rattle.std.proofs.lemmas.Result.{IfOk-weaker}
+use Rattle.std.proofs.lemmas.Slice.Zip.{AllZip-long}
+use Rattle.batch.specs.Runs.{plan_of}
+use Rattle.field.specs.Residue.{residue_of}
+use Rattle.lists.proofs.Zips.{AllZip-images}
+use Rattle.lookup.specs.Lookups.{lookups_of}
+use Rattle.lookup_files.specs.Shapes.{shape_of}
+use Rattle.lookup_names.specs.Lookups.{said_of}
+use Rattle.lookup_text.specs.Batches.{section_of}
+use Rattle.lookup_judge.specs.Found.{sized_over}
+use Rattle.lookup_judge.specs.Said.{AreLookupsOf, airs_of}
+use Rattle.lookup_judge.specs.internal.Airs.{size_of}
+use Rattle.lookup_judge.proofs.AirLaws.{says_long}
+use Rattle.lookup_judge.proofs.JudgeLaws.{planned_over}
+use Rattle.lookup_judge.proofs.plan.judge_plan.Goals as goal
+
+pub sized_airs-requires : goal.sized_airs-requires
+sized_airs-requires g c =
+    let sections = map section_of c.args.batch.now.sections.items in
+    let shapes = c.args.shapes.now in
+    let named = c.in_ok-named.named.items in
+    let said = says_long c.args.text.now sections 1048576 1048576 (airs_of sections) (map shape_of shapes) (map said_of named) c.in_ok-named.ensures in
+    let sets = AllZip-long _ c.deref.result.now c.in_ok-sets.sets.items c.in_ok-sets.ensures in
+    omega (arith, said, sets, length-map shapes shape_of, length-map named said_of, ap length c.deref.ensures.value, ap length c.deref-2.ensures.value)
+
+pub returns : goal.returns
+returns g c =
+    let shapes = map shape_of c.args.shapes.now in
+    let sets = c.in_ok-sets.sets.items in
+    let named = c.in_ok-named.named.items in
+    let element = residue_of g.row.P g.K.MontyParameters.positive in
+    let lookups = AllZip-images (AreLookupsOf element c.args.text.now) said_of lookups_of c.deref.result.now sets c.in_ok-sets.ensures in
+    let sizes = ap (map size_of) c.deref-4.ensures.value ∙ (c.in_ok-airs.ensures ∙ ap (λ ss. sized_over (map lookups_of ss) shapes) c.deref-2.ensures.value) in
+    let said = subst (λ ns. AllZip (AreLookupsOf element c.args.text.now) (map said_of ns) (map lookups_of sets)) c.deref.ensures.value lookups in
+    IfOk-weaker c.report_plan.result _ _
+    (λ report found. (sym c.check_buses.ensures ∙ c.in_ok-check_buses.was, map said_of named, map lookups_of sets, plan_of c.in_ok-plan.plan, c.in_ok-named.ensures, said, planned_over _ _ c.args.max_degree (map size_of c.deref-4.result.now) (sized_over (map lookups_of sets) shapes) (plan_of c.in_ok-plan.plan) report sizes found)) c.report_plan.ensures

@@ -1,0 +1,20 @@
+use Rattle.std.proofs.Common.{◌∙◌, ap, arith, map, subst, sym}
+use Rattle.std.proofs.lemmas.List.{take_all}
+use Rattle.std.proofs.lemmas.Simd.{map-map}
+use Rattle.batch.specs.Checks.{IsPlanFor}
+use Rattle.batch.specs.Runs.{plan_of}
+use Rattle.lookup_model.specs.Outline.{outline_of}
+use Rattle.lookup_judge.specs.Found.{Sized}
+use Rattle.lookup_judge.specs.internal.Airs.{size_of}
+use Rattle.lookup_judge.proofs.plan.plan_over.Goals as goal
+
+pub returns : goal.returns
+returns g c =
+    let airs = c.args.airs.now in
+    let lookups = c.loop-air.lookups.items in
+    let all = take_all c.loop-air.air-index airs (omega (arith, c.loop-air-test.false)) in
+    let heights = c.loop-air.invariant.heights ∙ (ap (map (λ air. (size_of air).rows)) all ∙ sym (map-map (λ (a : Sized _). a.rows) size_of airs)) in (
+      lookups,
+      c.loop-air.invariant.copies ∙ (ap (map (λ air. map outline_of (size_of air).lookups)) all ∙ sym (map-map (λ (a : Sized _). map outline_of a.lookups) size_of airs)),
+      subst (λ hs. IsPlanFor lookups hs (plan_of c.in_ok-new.field-0)) heights c.in_ok-new.ensures,
+    )

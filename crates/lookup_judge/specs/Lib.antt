@@ -1,0 +1,5 @@
+pub mod Found
+pub mod Refusals
+pub mod Runs
+pub mod Said
+pub mod internal

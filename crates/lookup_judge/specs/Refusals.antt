@@ -1,0 +1,24 @@
+-- How refusals to judge come about.
+use Rattle.batch.specs.declared.error.BatchError.{BatchError}
+use Rattle.batch.specs.declared.error.BatchError.TheVariants as batch
+use Rattle.lookup_elements.specs.declared.fault.ElementFault.{ElementFault}
+use Rattle.lookup_elements.specs.declared.fault.ElementFault.TheVariants as elements
+use Rattle.lookup_names.specs.declared.fault.NameFault.{NameFault}
+use Rattle.lookup_names.specs.declared.fault.NameFault.TheVariants as names
+use Rattle.lookup_judge.specs.declared.fault.JudgeFault.{JudgeFault}
+use Rattle.lookup_judge.specs.declared.fault.JudgeFault.TheVariants.{Batch, Element, Memory, Name}
+
+-- the refusal of names; out of memory keeps its name
+abbrev pub of_name : NameFault → JudgeFault
+of_name names.Memory = Memory
+of_name (names.Refused refusal) = Name refusal
+
+-- the refusal of lookups over a field; out of memory keeps its name
+abbrev pub of_element : ElementFault → JudgeFault
+of_element elements.Memory = Memory
+of_element (elements.Refused refusal) = Element refusal
+
+-- the refusal of a batch; out of memory keeps its name
+abbrev pub of_batch : BatchError → JudgeFault
+of_batch batch.Memory = Memory
+of_batch e = Batch e

@@ -1,0 +1,61 @@
+-- What a text says of each AIR, over its columns and over its tables: its lookups and its traces.
+use Rattle.std.specs.Prelude.{◌≡◌, ℕ, List, [], ◌∷◌, Ok, length, map, option_map}
+use Rattle.air.specs.Traces.{AirTraces, air_traces}
+use Rattle.lookup_debug.specs.Contributions.{Traced}
+use Rattle.lookup_elements.specs.Columns.{outlines_in}
+use Rattle.lookup_files.specs.Shapes.{Shape, column_names}
+use Rattle.lookup_files.specs.Tables.{TablesOf}
+use Rattle.lookup_model.specs.Outline.{outline_of}
+use Rattle.lookup_model.specs.declared.types.Lookup.{Lookup}
+use Rattle.lookup_names.specs.Lookups.{Said, said_by_items}
+use Rattle.lookup_names.specs.Scopes.{Names}
+use Rattle.lookup_text.specs.Batches.{Air, Section, bus, air}
+use Rattle.lookup_text.specs.Tables.{Numbers}
+use Rattle.matrix.specs.Matrix.{Matrix}
+
+-- the AIRs among the sections of a text
+abbrev pub airs_of : List Section → List Air
+airs_of [] = []
+airs_of (bus b ∷ sections) = airs_of sections
+airs_of (air a ∷ sections) = a ∷ airs_of sections
+
+-- what names stand for over these columns of the main and the preprocessed trace, before any definition
+abbrev pub names_over : List ℕ → List (List ℕ) → List (List ℕ) → Names
+names_over text columns fixed = record { text = text; columns = columns; preprocessed = fixed; defined = [] }
+
+module _ (text : List ℕ) (sections : List Section) where
+  -- the items of an AIR say this over these columns, in room for so many nodes
+  abbrev pub SaysOver : Air → List (List ℕ) → List (List ℕ) → ℕ → Said → Type 0
+  SaysOver a columns fixed room said = said_by_items sections (names_over text columns fixed) 0 a.items room ≡ Ok said
+
+  -- so they do over the columns of each AIR; each AIR leaves room for those after it
+  abbrev pub SayOver : ℕ → List Air → List Shape → List Said → Type 0
+  SayOver room [] [] [] = Unit {0}
+  SayOver room (a ∷ airs) (s ∷ ss) (x ∷ xs) = SaysOver a s.columns s.preprocessed room x × SayOver x.room airs ss xs
+  SayOver room airs ss xs = ⊥
+
+module _ {F : Type 0} (element : ℕ → F) where
+  -- a table as a trace
+  abbrev pub trace_in : Numbers → Matrix F
+  trace_in t = record { values = map element t.1; width = length t.0 }
+
+  -- the traces of an AIR: its tables, and the public values that its items say
+  abbrev pub traces_in : TablesOf → Said → AirTraces F
+  traces_in tables said = air_traces (trace_in tables.main) (option_map trace_in tables.preprocessed) (map element said.public_values)
+
+  -- lookups over a field are those that items say
+  abbrev pub AreLookupsOf : List ℕ → Said → List (Lookup F) → Type 0
+  AreLookupsOf text said lookups = map outline_of lookups ≡ outlines_in element text 0 said.columns
+
+  module _ (text : List ℕ) (sections : List Section) where
+    -- the lookups and the traces of an AIR are those that its items and its tables say
+    pub record IsSaid (a : Air) (tables : TablesOf) (room : ℕ) (said : Said) (traced : Traced F) : Type 0 where
+      pub items : SaysOver text sections a tables.main.0 (column_names tables.preprocessed) room said
+      pub lookups : AreLookupsOf text said traced.lookups
+      pub traces : traced.traces ≡ traces_in tables said
+
+    -- so it is of each AIR, with tables for each; each AIR leaves room for those after it
+    abbrev pub AreSaid : ℕ → List Air → List TablesOf → List (Traced F) → Type 0
+    AreSaid room [] [] [] = Unit {0}
+    AreSaid room (a ∷ airs) (t ∷ ts) (x ∷ xs) = (said : Said) × IsSaid a t room said x × AreSaid said.room airs ts xs
+    AreSaid room airs ts xs = ⊥

@@ -1,0 +1,196 @@
+//! The AIRs of a text over a field: what it says of each, over its columns or over its tables.
+ghost use Rattle.std.specs.Prelude.{◌≡◌, IfOk, map, option_map};
+ghost use Rattle.field.specs.Residue.{residue_of};
+ghost use Rattle.lookup.specs.Lookups.{lookups_of};
+ghost use Rattle.lookup_files.specs.Shapes.{column_names, shape_of};
+ghost use Rattle.lookup_files.specs.Tables.{tables_of};
+ghost use Rattle.lookup_judge.specs.Said.{AreLookupsOf, AreSaid, IsSaid, SayOver, airs_of, trace_in};
+ghost use Rattle.lookup_judge.specs.internal.Airs.{AreFittingAirs, IsFittingAir, over_traced};
+ghost use Rattle.lookup_names.specs.Lookups.{Said, said_of};
+ghost use Rattle.lookup_text.specs.Batches.{air_of, section_of};
+ghost use Rattle.lookup_text.specs.Tables.{table_of};
+
+use crate::fault::JudgeFault;
+use field::{MontyField31, QuarticParameters};
+use lookup::Lookups;
+use lookup::debug_util::fit_fault;
+use lookup_elements::{elements_of, has_whole_rows, lookups_over, matrix_of};
+use lookup_files::{AirShape, AirTables};
+use lookup_names::{NamedAir, lookups_of};
+use lookup_text::{AirText, BatchText, SectionText, Table};
+use matrix::RowMajorMatrix;
+use std::alloc::{AllocError, Global};
+
+/// How many nodes all expressions of a text may have together.
+pub const MAX_NODES: usize = 1_048_576;
+
+/// An AIR over a field: its lookups and its traces.
+#[derive(Drop)]
+pub(crate) struct AirOver<F> {
+    pub(crate) lookups: Lookups<F>,
+    pub(crate) main: RowMajorMatrix<F>,
+    pub(crate) preprocessed: Option<RowMajorMatrix<F>>,
+    pub(crate) public_values: Vec<F>,
+}
+
+/// What the items of each AIR of a batch say, over the columns of these shapes, one for each AIR.
+///
+/// Refuses another number of shapes than of AIRs, and then the faults of `lookups_of`. Also fails when out of
+/// memory.
+pub(crate) fn airs_named(
+    alloc: Global,
+    text: &[u8],
+    batch: &BatchText,
+    shapes: &[AirShape],
+) -> Result<Vec<NamedAir>, JudgeFault>
+    ensures { IfOk result (λ v. let sections = map section_of batch.now.sections.items in
+        SayOver text.now sections 1048576 (airs_of sections) (map shape_of shapes.now)
+        (map said_of v.items)) }
+{
+    let airs = airs_of(alloc, batch)?;
+    check_count(airs.len(), shapes.len())?;
+    let mut named = Vec::new(alloc);
+    let mut room = MAX_NODES;
+    for index in 0..shapes.len() {
+        let AirShape {
+            columns,
+            preprocessed,
+            ..
+        } = &shapes[index];
+        let air = lookups_of(alloc, text, batch, airs[index], columns, preprocessed, room)?;
+        room = air.room;
+        named.push(air)?;
+    }
+    Ok(named)
+}
+
+/// The AIRs of a batch over these tables, one for each AIR.
+pub(crate) fn airs_over<const P: u32, K: QuarticParameters<P>>(
+    alloc: Global,
+    text: &[u8],
+    batch: &BatchText,
+    tables: &[AirTables],
+) -> Result<Vec<AirOver<MontyField31<P, K>>>, JudgeFault>
+    ensures said { IfOk result (λ v. let sections = map section_of batch.now.sections.items in
+        AreSaid (residue_of P K.positive) text.now sections 1048576 (airs_of sections)
+        (map tables_of tables.now) (map over_traced v.items)) }
+    ensures fit { IfOk result (λ v. AreFittingAirs v.items) }
+{
+    let said = airs_of(alloc, batch)?;
+    check_count(said.len(), tables.len())?;
+    let mut airs = Vec::new(alloc);
+    let mut room = MAX_NODES;
+    for index in 0..tables.len() {
+        let (air, left) = air_over(alloc, text, batch, said[index], &tables[index], index, room)?;
+        room = left;
+        airs.push(air)?;
+    }
+    Ok(airs)
+}
+
+/// Whether there are as many shapes or tables as AIRs.
+fn check_count(airs: usize, tables: usize) -> Result<(), JudgeFault>
+    ensures { IfOk result (λ _. airs ≡ tables) }
+{
+    if airs == tables {
+        Ok(())
+    } else {
+        Err(JudgeFault::Tables { airs, tables })
+    }
+}
+
+/// The AIRs among the sections of a batch.
+fn airs_of(alloc: Global, batch: &BatchText) -> Result<Vec<&AirText>, AllocError>
+    ensures { IfOk result (λ v. map (λ a. air_of a.now) v.items
+        ≡ airs_of (map section_of batch.now.sections.items)) }
+{
+    let mut airs = Vec::new(alloc);
+    for section in &batch.sections {
+        if let SectionText::Air(air) = section {
+            airs.push(air)?;
+        }
+    }
+    Ok(airs)
+}
+
+/// An AIR with this number over its tables, and the room that it leaves.
+fn air_over<const P: u32, K: QuarticParameters<P>>(
+    alloc: Global,
+    text: &[u8],
+    batch: &BatchText,
+    air: &AirText,
+    tables: &AirTables,
+    index: usize,
+    room: usize,
+) -> Result<(AirOver<MontyField31<P, K>>, usize), JudgeFault>
+    ensures said { IfOk result (λ r. (said : Said) × (r.1 ≡ said.room)
+        × IsSaid (residue_of P K.positive) text.now (map section_of batch.now.sections.items)
+        (air_of air.now) (tables_of tables.now) room said (over_traced r.0)) }
+    ensures fit { IfOk result (λ r. IsFittingAir r.0) }
+{
+    let AirTables { main, preprocessed } = tables;
+    let (fixed_names, fixed) = fixed_trace(alloc, preprocessed, index)?;
+    if !has_whole_rows(main) {
+        return Err(JudgeFault::Rows {
+            air: index,
+            preprocessed: false,
+        });
+    }
+    let named = lookups_of(alloc, text, batch, air, &main.names, fixed_names, room)?;
+    let lookups = lookup_set(alloc, text, &named, index)?;
+    let public_values = elements_of(alloc, &named.public_values)?;
+    let main = matrix_of(alloc, main)?;
+    match fit_fault(&main, fixed.as_ref(), &public_values, lookups.as_slice()) {
+        Some(fault) => Err(JudgeFault::Fit { air: index, fault }),
+        None => Ok((
+            AirOver {
+                lookups,
+                main,
+                preprocessed: fixed,
+                public_values,
+            },
+            named.room,
+        )),
+    }
+}
+
+/// The lookups of an AIR with this number over a field.
+pub(crate) fn lookup_set<const P: u32, K: QuarticParameters<P>>(
+    alloc: Global,
+    text: &[u8],
+    named: &NamedAir,
+    air: usize,
+) -> Result<Lookups<MontyField31<P, K>>, JudgeFault>
+    ensures { IfOk result (λ set. AreLookupsOf (residue_of P K.positive) text.now
+        (said_of named.now) (lookups_of set)) }
+{
+    let records = lookups_over(alloc, text, &named.lookups)?;
+    match Lookups::from_records(alloc, records) {
+        Ok(lookups) => Ok(lookups),
+        Err(error) => Err(JudgeFault::Lookups { air, error }),
+    }
+}
+
+/// The names and the trace of a preprocessed table, if there is one.
+fn fixed_trace<const P: u32, K: QuarticParameters<P>>(
+    alloc: Global,
+    table: &Option<Table>,
+    air: usize,
+) -> Result<(&[Vec<u8>], Option<RowMajorMatrix<MontyField31<P, K>>>), JudgeFault>
+    ensures { IfOk result (λ r. let numbers = option_map table_of table.now in
+        (map (λ name. name.items) r.0.now ≡ column_names numbers)
+        × (r.1 ≡ option_map (trace_in (residue_of P K.positive)) numbers)) }
+{
+    match table {
+        None => Ok((&[], None)),
+        Some(table) => {
+            if !has_whole_rows(table) {
+                return Err(JudgeFault::Rows {
+                    air,
+                    preprocessed: true,
+                });
+            }
+            Ok((table.names.as_slice(), Some(matrix_of(alloc, table)?)))
+        }
+    }
+}

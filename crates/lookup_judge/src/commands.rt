@@ -1,0 +1,204 @@
+//! The commands of the program, each from the bytes of its files to its answer.
+ghost use Rattle.std.specs.Prelude.{◌≡◌, IfOk, Ok, map, true};
+ghost use Rattle.field.specs.Residue.{residue_of};
+ghost use Rattle.lookup_files.specs.Files.{named_of};
+ghost use Rattle.lookup_files.specs.Shapes.{all_shapes, shape_of};
+ghost use Rattle.lookup_files.specs.Tables.{all_tables, tables_of};
+ghost use Rattle.lookup_judge.specs.Runs.{IsPlanned, IsVerdict};
+ghost use Rattle.lookup_text.specs.Batches.{batch_at, section_of};
+
+use crate::airs::airs_named;
+use crate::fault::JudgeFault;
+use crate::judgement::judge;
+use crate::page::Page;
+use crate::plan::{judge_plan, sets_over};
+use crate::program::Answer;
+use crate::refusal::RunRefusal;
+use crate::sections::{Told, push_airs, push_plan, push_report};
+use crate::show::{push_json, push_lookups};
+use field::{MontyField31, MontyQuartic, Over, QuarticParameters};
+use lookup_files::{AirShape, AirTables, NamedFile, TableFault, read_shapes, read_tables};
+use lookup_names::{NamedAir, check_buses};
+use lookup_text::{BatchText, TextFault, read_batch};
+use lookup_words::FieldName;
+use std::alloc::Global;
+
+/// How many unbalanced tuples of a bus are looked at for those that differ in one value.
+const MOST_COMPARED: usize = 64;
+
+/// A file with a batch, by its name and its bytes, and the files that it names.
+#[derive(Clone, Copy)]
+pub(crate) struct Given<'a> {
+    pub(crate) file: &'a [u8],
+    pub(crate) text: &'a [u8],
+    pub(crate) files: &'a [NamedFile],
+}
+
+impl<'a> Given<'a> {
+    pub(crate) fn new(file: &'a str, text: &'a [u8], files: &'a [NamedFile]) -> Given<'a>
+        ensures { (result.text ≡ text.entry) × (result.files ≡ files.entry) }
+    {
+        Given {
+            file: file.as_bytes(),
+            text,
+            files,
+        }
+    }
+}
+
+/// `check`: whether all balances, over a field.
+pub(crate) fn check<const P: u32, K: QuarticParameters<P>>(
+    alloc: Global,
+    given: Given<'_>,
+    field: FieldName,
+    limit: usize,
+    max_degree: usize,
+) -> Result<Answer, RunRefusal>
+    ensures { let E = ⟦<MontyQuartic<P, K> as Over<MontyField31<P, K>>>⟧.fields in
+        IfOk result (IsVerdict E P (residue_of P K.positive) (λ x. x.value) given.entry.text.now
+        (map named_of given.entry.files.now) max_degree) }
+{
+    let batch = batch_of(alloc, given)?;
+    let tables = tables_in(alloc, given, &batch, u64::from(P))?;
+    let (text, most) = (given.text, limit.max(MOST_COMPARED));
+    match judge::<P, K>(alloc, text, &batch, &tables, most, max_degree) {
+        Ok(report) => {
+            let mut page = Page::new(alloc);
+            let told = Told {
+                text,
+                batch: &batch,
+                field,
+                limit,
+                max_degree,
+            };
+            push_report(&mut page, told, &report)?;
+            Ok(Answer {
+                text: page.bytes,
+                yes: report.balanced,
+            })
+        }
+        Err(fault) => Err(RunRefusal::of_judge(alloc, given, &batch, fault)?),
+    }
+}
+
+/// `plan`: what holds before any trace is seen; and `pack`, which tells the AIRs alone.
+pub(crate) fn plan<const P: u32, K: QuarticParameters<P>>(
+    alloc: Global,
+    given: Given<'_>,
+    field: FieldName,
+    max_degree: usize,
+    airs_alone: bool,
+) -> Result<Answer, RunRefusal>
+    ensures { let E = ⟦<MontyQuartic<P, K> as Over<MontyField31<P, K>>>⟧.fields in
+        IfOk result (IsPlanned E P (residue_of P K.positive) (λ x. x.value) given.entry.text.now
+        (map named_of given.entry.files.now) max_degree) }
+{
+    let batch = batch_of(alloc, given)?;
+    let shapes = shapes_in(alloc, given, &batch, u64::from(P))?;
+    match judge_plan::<P, K>(alloc, given.text, &batch, &shapes, max_degree) {
+        Ok(report) => {
+            let mut page = Page::new(alloc);
+            let told = Told {
+                text: given.text,
+                batch: &batch,
+                field,
+                limit: 0,
+                max_degree,
+            };
+            if airs_alone {
+                push_airs(&mut page, told, &report.airs)?;
+            } else {
+                push_plan(&mut page, told, &report)?;
+            }
+            Ok(Answer::of_page(page))
+        }
+        Err(fault) => Err(RunRefusal::of_judge(alloc, given, &batch, fault)?),
+    }
+}
+
+/// `show`: each lookup as it was understood, in words or in JSON.
+pub(crate) fn show<const P: u32, K: QuarticParameters<P>>(
+    alloc: Global,
+    given: Given<'_>,
+    json: bool,
+) -> Result<Answer, RunRefusal>
+    ensures { IfOk result (λ answer. answer.yes ≡ true) }
+{
+    let batch = batch_of(alloc, given)?;
+    let shapes = shapes_in(alloc, given, &batch, u64::from(P))?;
+    let named = match named_in(alloc, given.text, &batch, &shapes) {
+        Ok(named) => named,
+        Err(fault) => return Err(RunRefusal::of_judge(alloc, given, &batch, fault)?),
+    };
+    let mut page = Page::new(alloc);
+    if !json {
+        push_lookups(&mut page, given.text, &batch, &shapes, &named)?;
+        return Ok(Answer::of_page(page));
+    }
+    match sets_over::<P, K>(alloc, given.text, &named) {
+        Ok(sets) => {
+            push_json(&mut page, given.text, &batch, &sets)?;
+            Ok(Answer::of_page(page))
+        }
+        Err(fault) => Err(RunRefusal::of_judge(alloc, given, &batch, fault)?),
+    }
+}
+
+/// What the items of each AIR say, once no bus is declared twice.
+fn named_in(
+    alloc: Global,
+    text: &[u8],
+    batch: &BatchText,
+    shapes: &[AirShape],
+) -> Result<Vec<NamedAir>, JudgeFault> {
+    check_buses(text, batch)?;
+    airs_named(alloc, text, batch, shapes)
+}
+
+/// The batch in a text.
+fn batch_of(alloc: Global, given: Given<'_>) -> Result<BatchText, RunRefusal>
+    ensures { IfOk result (λ batch. batch_at given.entry.text.now
+        ≡ Ok (map section_of batch.sections.items)) }
+{
+    match read_batch(alloc, given.text) {
+        Ok(batch) => Ok(batch),
+        Err(TextFault::Memory) => Err(RunRefusal::Memory),
+        Err(TextFault::Fault(fault)) => {
+            Err(RunRefusal::of_text(alloc, given.file, given.text, fault)?)
+        }
+    }
+}
+
+/// The tables that a batch names.
+fn tables_in(
+    alloc: Global,
+    given: Given<'_>,
+    batch: &BatchText,
+    modulus: u64,
+) -> Result<Vec<AirTables>, RunRefusal>
+    ensures { IfOk result (λ v. all_tables given.entry.text.now (map named_of given.entry.files.now) modulus
+        (map section_of batch.now.sections.items) ≡ Ok (map tables_of v.items)) }
+{
+    match read_tables(alloc, given.text, batch, given.files, modulus) {
+        Ok(tables) => Ok(tables),
+        Err(TableFault::Memory) => Err(RunRefusal::Memory),
+        Err(TableFault::Refused(refusal)) => Err(RunRefusal::of_tables(alloc, given, refusal)?),
+    }
+}
+
+/// The shapes of the AIRs of a batch.
+fn shapes_in(
+    alloc: Global,
+    given: Given<'_>,
+    batch: &BatchText,
+    modulus: u64,
+) -> Result<Vec<AirShape>, RunRefusal>
+    ensures { IfOk result (λ v. all_shapes given.entry.text.now (map named_of given.entry.files.now)
+        modulus (map section_of batch.now.sections.items) ≡ Ok (map shape_of v.items)) }
+{
+    match read_shapes(alloc, given.text, batch, given.files, modulus) {
+        Ok(shapes) => Ok(shapes),
+        Err(TableFault::Memory) => Err(RunRefusal::Memory),
+        Err(TableFault::Refused(refusal)) => Err(RunRefusal::of_tables(alloc, given, refusal)?),
+    }
+}

@@ -1,0 +1,133 @@
+//! A batch, judged.
+ghost use Rattle.std.specs.Prelude.{◌≡◌, ◌↔◌, All, IfOk, IsTrue, List, Ok, map};
+ghost use Rattle.batch.specs.Traces.{view_of};
+ghost use Rattle.field.specs.Residue.{Residue, residue_of};
+ghost use Rattle.lookup_debug.specs.Contributions.{Traced, traced_of};
+ghost use Rattle.lookup_files.specs.Tables.{tables_of};
+ghost use Rattle.lookup_judge.specs.Found.{IsFound, sized_of};
+ghost use Rattle.lookup_judge.specs.Said.{AreSaid, airs_of};
+ghost use Rattle.lookup_judge.specs.internal.Airs.{over_traced, size_of};
+ghost use Rattle.lookup_names.specs.Buses.{distinct_buses};
+ghost use Rattle.lookup_text.specs.Batches.{section_of};
+
+use crate::airs::{AirOver, airs_over};
+use crate::fault::JudgeFault;
+use crate::plan::{plan_over, report_plan};
+use crate::report::Report;
+use crate::sizes::SizedAir;
+use batch::BatchTrace;
+use field::{Field, MontyField31, MontyQuartic, Over, QuarticParameters};
+use lookup::debug_util::{BusGroup, LookupDebugInstance, bus_table};
+use lookup_files::AirTables;
+use lookup_names::check_buses;
+use lookup_text::BatchText;
+use std::alloc::{AllocError, Global};
+
+/// What is found of a batch over these tables, one for each AIR in the order of the text, with at
+/// most `limit` unbalanced tuples of each bus and as many places of each tuple, and with columns
+/// packed within `max_degree`.
+///
+/// Its lookups are those of `lookups_of`, over the field; its traces are the tables.
+///
+/// Refuses, in this order: a bus that is declared twice; another number of tables than of AIRs; then AIR by
+/// AIR a table without rows or with a row that is not whole, the faults of `lookups_of` and
+/// `lookups_over`, and lookups that do not fit the tables, which is so where both tables have not
+/// as many rows; then what `BatchPlan::new`, `BatchPlan::soundness_count` and
+/// `BatchPlan::soundness_of_heights` refuse. Also fails when out of memory.
+pub fn judge<const P: u32, K: QuarticParameters<P>>(
+    alloc: Global,
+    text: &[u8],
+    batch: &BatchText,
+    tables: &[AirTables],
+    limit: usize,
+    max_degree: usize,
+) -> Result<Report<MontyField31<P, K>>, JudgeFault>
+    ensures { let E = ⟦<MontyQuartic<P, K> as Over<MontyField31<P, K>>>⟧.fields in
+        let sections = map section_of batch.now.sections.items in
+        IfOk result (λ report. (distinct_buses text.now sections ≡ Ok tt)
+        × (traced : List (Traced (Residue P))) × AreSaid (residue_of P K.positive) text.now sections 1048576 (airs_of sections)
+        (map tables_of tables.now) traced
+        × IsFound E P limit max_degree (λ x. x.value) traced report) }
+{
+    check_buses(text, batch)?;
+    let airs = airs_over::<P, K>(alloc, text, batch, tables)?;
+    let sizes = sizes_of(alloc, &airs)?;
+    let plan = plan_over(alloc, &sizes)?;
+    let traces = traces_of(alloc, &airs)?;
+    let counts = plan.soundness_count::<MontyQuartic<P, K>>(alloc, &traces)?;
+    let instances = instances_of(alloc, &airs)?;
+    let groups = bus_table(alloc, &instances, limit)?;
+    let balanced = all_balance(&groups);
+    let plan = report_plan::<MontyField31<P, K>, MontyQuartic<P, K>>(
+        alloc, &sizes, &plan, max_degree,
+    )?;
+    Ok(Report {
+        plan,
+        counts,
+        groups,
+        balanced,
+    })
+}
+
+/// The lookups and the sizes of these AIRs.
+fn sizes_of<'a, F: Field>(
+    alloc: Global,
+    airs: &'a [AirOver<F>],
+) -> Result<Vec<SizedAir<'a, F>>, AllocError>
+    ensures { IfOk result (λ v. map size_of v.items ≡ map (λ a. sized_of (over_traced a)) airs.now) }
+{
+    let mut sizes = Vec::new(alloc);
+    for air in airs {
+        sizes.push(SizedAir {
+            lookups: &air.lookups,
+            rows: air.main.height(),
+            columns: air.main.width(),
+        })?;
+    }
+    Ok(sizes)
+}
+
+/// The traces of these AIRs, as a plan takes them.
+fn traces_of<'a, F: Field>(
+    alloc: Global,
+    airs: &'a [AirOver<F>],
+) -> Result<Vec<BatchTrace<'a, F>>, AllocError>
+    ensures { IfOk result (λ v. map view_of v.items ≡ map (λ a. (over_traced a).traces) airs.now) }
+{
+    let mut traces = Vec::new(alloc);
+    for air in airs {
+        traces.push(BatchTrace {
+            main: &air.main,
+            preprocessed: air.preprocessed.as_ref(),
+            public_values: air.public_values.as_slice(),
+        })?;
+    }
+    Ok(traces)
+}
+
+/// These AIRs, as the debug check takes them.
+fn instances_of<'a, F: Field>(
+    alloc: Global,
+    airs: &'a [AirOver<F>],
+) -> Result<Vec<LookupDebugInstance<'a, F>>, AllocError>
+    ensures { IfOk result (λ v. map traced_of v.items ≡ map over_traced airs.now) }
+{
+    let mut instances = Vec::new(alloc);
+    for air in airs {
+        instances.push(LookupDebugInstance {
+            main_trace: &air.main,
+            preprocessed_trace: air.preprocessed.as_ref(),
+            public_values: air.public_values.as_slice(),
+            lookups: air.lookups.as_slice(),
+            permutation_challenges: &[],
+        })?;
+    }
+    Ok(instances)
+}
+
+/// Whether no group has an unbalanced tuple.
+fn all_balance<F>(groups: &[BusGroup<F>]) -> bool
+    ensures { IsTrue result ↔ All (λ group. group.unbalanced ≡ 0) groups.now }
+{
+    groups.iter().all(|group| group.unbalanced == 0)
+}

@@ -1,0 +1,264 @@
+//! Why a run is refused, as text.
+ghost use Rattle.std.specs.Prelude.{◌≡◌};
+ghost use Rattle.lookup_judge.specs.declared.refusal.RunRefusal.TheVariants.{Memory};
+
+use crate::commands::Given;
+use crate::fault::JudgeFault;
+use crate::mark::{name_text, push_mark, push_place, push_why};
+use crate::near::near_name;
+use crate::page::Page;
+use crate::words::{air_at, lookup_at, trace_file};
+use batch::BatchError;
+use lookup::LookupError;
+use lookup::debug_util::FitFault;
+use lookup_elements::ElementWhy;
+use lookup_files::{NamedFile, TableRefusal, TableWhy};
+use lookup_names::bytes_of;
+use lookup_text::{BatchText, Fault, Span, place_of};
+use std::alloc::{AllocError, AllocFailed, Global};
+
+/// A refusal of the program.
+#[derive(Debug, Drop)]
+pub enum RunRefusal {
+    /// Out of memory.
+    Memory,
+    /// Anything else, as the lines that tell it.
+    Told(Vec<u8>),
+}
+
+impl From<AllocError> for RunRefusal {
+    ghost from_gives = { λ _ e. e ≡ Memory };
+
+    fn from(_error: AllocError) -> RunRefusal {
+        RunRefusal::Memory
+    }
+}
+
+impl<T: Drop> From<AllocFailed<T>> for RunRefusal {
+    ghost from_gives = { λ _ e. e ≡ Memory };
+
+    fn from(_error: AllocFailed<T>) -> RunRefusal {
+        RunRefusal::Memory
+    }
+}
+
+impl RunRefusal {
+    /// What is wrong with a whole file.
+    pub fn of_file(alloc: Global, file: &[u8], what: &str) -> Result<RunRefusal, AllocError> {
+        let mut page = Page::new(alloc);
+        page.shown(file)?;
+        page.word(": error: ")?;
+        page.word(what)?;
+        page.word("\n")?;
+        Ok(RunRefusal::Told(page.bytes))
+    }
+
+    /// What is wrong at a byte of a file.
+    pub(crate) fn at(
+        alloc: Global,
+        file: &[u8],
+        text: &[u8],
+        at: usize,
+        what: &str,
+    ) -> Result<RunRefusal, AllocError> {
+        RunRefusal::with_name(alloc, file, text, at, what, &None)
+    }
+
+    /// What is wrong at a byte of a file, with the name that was meant there, if one is near.
+    fn with_name(
+        alloc: Global,
+        file: &[u8],
+        text: &[u8],
+        at: usize,
+        what: &str,
+        meant: &Option<Vec<u8>>,
+    ) -> Result<RunRefusal, AllocError> {
+        let mut page = Page::new(alloc);
+        push_place(&mut page, file, text, at)?;
+        page.word(what)?;
+        push_mark(&mut page, text, at, meant)?;
+        Ok(RunRefusal::Told(page.bytes))
+    }
+
+    /// The fault of the text of a file.
+    pub(crate) fn of_text(
+        alloc: Global,
+        file: &[u8],
+        text: &[u8],
+        fault: Fault,
+    ) -> Result<RunRefusal, AllocError> {
+        let mut page = Page::new(alloc);
+        push_place(&mut page, file, text, fault.at)?;
+        push_why(&mut page, fault.why)?;
+        push_mark(&mut page, text, fault.at, &None)?;
+        Ok(RunRefusal::Told(page.bytes))
+    }
+
+    /// What is wrong with the tables of a batch.
+    pub(crate) fn of_tables(
+        alloc: Global,
+        given: Given<'_>,
+        refusal: TableRefusal,
+    ) -> Result<RunRefusal, AllocError> {
+        let Given { file, text, files } = given;
+        let TableRefusal {
+            file: named,
+            at,
+            why,
+        } = refusal;
+        let what = match why {
+            TableWhy::NoTrace => "this AIR has no trace",
+            TableWhy::RepeatedTrace => "this AIR has a trace already",
+            TableWhy::RepeatedPreprocessed => "this AIR has a preprocessed trace already",
+            TableWhy::NoColumns => "this AIR has no trace, and says no `columns`",
+            TableWhy::NoHeight => "this AIR has no trace, and says no `height`",
+            TableWhy::RepeatedColumns => "this AIR says its columns already",
+            TableWhy::RepeatedHeight => "this AIR says its height already",
+            TableWhy::RepeatedColumn => "a column before this one has the same name",
+            TableWhy::Unreadable => "this file cannot be read",
+            TableWhy::Text(why) => {
+                let name = match named {
+                    Some(span) => bytes_of(text, span),
+                    None => file,
+                };
+                let fault = Fault { at, why };
+                return RunRefusal::of_text(alloc, name, content_of(files, name), fault);
+            }
+        };
+        RunRefusal::at(alloc, file, text, at, what)
+    }
+
+    /// Why a batch is not judged.
+    pub(crate) fn of_judge(
+        alloc: Global,
+        given: Given<'_>,
+        batch: &BatchText,
+        fault: JudgeFault,
+    ) -> Result<RunRefusal, AllocError> {
+        let Given { file, text, .. } = given;
+        match fault {
+            JudgeFault::Memory => Ok(RunRefusal::Memory),
+            JudgeFault::Name(found) => {
+                let meant = near_name(alloc, given, batch, found.at, found.why)?;
+                RunRefusal::with_name(alloc, file, text, found.at, name_text(found.why), &meant)
+            }
+            JudgeFault::Element(found) => {
+                RunRefusal::at(alloc, file, text, found.at, element_text(found.why))
+            }
+            JudgeFault::Rows { air, preprocessed } => {
+                let name = file_of(text, batch, air, preprocessed);
+                RunRefusal::of_file(alloc, name, "there are no rows")
+            }
+            JudgeFault::Fit { air, fault } => {
+                let at = name_of(batch, air).start;
+                RunRefusal::at(alloc, file, text, at, fit_text(fault))
+            }
+            JudgeFault::Lookups { air, error }
+            | JudgeFault::Batch(BatchError::Air { air, error }) => {
+                RunRefusal::of_air(alloc, file, text, batch, air, &error)
+            }
+            JudgeFault::Tables { .. } => RunRefusal::of_file(alloc, file, "tables are missing"),
+            JudgeFault::Batch(error) => {
+                let what = format!(in alloc; "{error}")?;
+                RunRefusal::of_file(alloc, file, what.as_str())
+            }
+        }
+    }
+
+    /// Why the lookups of the AIR with this number are refused: at a row of its table, where the
+    /// flags of a row are at fault, and else at its name.
+    fn of_air(
+        alloc: Global,
+        file: &[u8],
+        text: &[u8],
+        batch: &BatchText,
+        air: usize,
+        error: &LookupError,
+    ) -> Result<RunRefusal, AllocError> {
+        let (row, lookup, what) = match error {
+            LookupError::FlagNotBoolean { row, lookup } => {
+                (*row, *lookup, " is neither 0 nor 1 on this row\n")
+            }
+            LookupError::FlagsNotExclusive { row, lookup } => {
+                (*row, *lookup, " is 1 on this row, and so is another one\n")
+            }
+            other => {
+                let what = format!(in alloc; "{other}")?;
+                let at = name_of(batch, air).start;
+                return RunRefusal::at(alloc, file, text, at, what.as_str());
+            }
+        };
+        let mut page = Page::new(alloc);
+        page.shown(file_of(text, batch, air, false))?;
+        page.word(":")?;
+        page.number(row as u128 + 2)?;
+        page.word(": error: a flag of ")?;
+        page.shown(file)?;
+        page.word(":")?;
+        page.number(line_of(text, batch, air, lookup) as u128)?;
+        page.word(what)?;
+        Ok(RunRefusal::Told(page.bytes))
+    }
+}
+
+/// The line of a lookup of the AIR with this number.
+fn line_of(text: &[u8], batch: &BatchText, air: usize, lookup: usize) -> usize {
+    match air_at(batch, air) {
+        Some(air) => match lookup_at(air, lookup) {
+            Some(item) => place_of(text, item.at).line,
+            None => 0,
+        },
+        None => 0,
+    }
+}
+
+/// The name of the AIR with this number.
+fn name_of(batch: &BatchText, air: usize) -> Span {
+    match air_at(batch, air) {
+        Some(air) => air.name,
+        None => Span { start: 0, end: 0 },
+    }
+}
+
+/// The file of the main or the preprocessed trace of the AIR with this number.
+fn file_of<'a>(text: &'a [u8], batch: &BatchText, air: usize, preprocessed: bool) -> &'a [u8] {
+    match air_at(batch, air) {
+        Some(air) => match trace_file(air, preprocessed) {
+            Some(file) => bytes_of(text, file),
+            None => &[],
+        },
+        None => &[],
+    }
+}
+
+/// Why a lookup cannot be made.
+fn element_text(why: ElementWhy) -> &'static str {
+    match why {
+        ElementWhy::BusName => "the name of a bus has to be UTF-8",
+        ElementWhy::Weight => "these weights do not fit 64 bits",
+    }
+}
+
+/// Why lookups do not fit the tables of their AIR.
+fn fit_text(fault: FitFault) -> &'static str {
+    match fault {
+        FitFault::Heights { .. } =>
+            "the two tables of this AIR do not have the same number of rows",
+        FitFault::Missing { .. } | FitFault::Malformed { .. } => {
+            "the lookups of this AIR do not fit its tables"
+        }
+    }
+}
+
+/// What the first file with a name holds.
+fn content_of<'a>(files: &'a [NamedFile], name: &[u8]) -> &'a [u8] {
+    for file in files {
+        if file.name.as_slice() == name {
+            return match &file.content {
+                Some(content) => content.as_slice(),
+                None => &[],
+            };
+        }
+    }
+    &[]
+}

@@ -1,0 +1,48 @@
+//! What is found of a batch.
+use batch::HeightSoundness;
+use checker::SoundnessCount;
+use lookup::debug_util::BusGroup;
+
+/// What is found of an AIR.
+#[derive(Debug, Drop)]
+pub struct AirReport {
+    pub rows: usize,
+    pub columns: usize,
+    /// The sum of the weights of all lookups.
+    pub weight: u128,
+    /// The degree of the constraint of each lookup.
+    pub degrees: Vec<usize>,
+    /// The same of the columns that packing within the degree leaves.
+    pub packed: Vec<usize>,
+}
+
+/// What is found of a batch before any trace is seen.
+#[derive(Debug, Drop)]
+pub struct PlanReport {
+    /// The AIRs, in their order.
+    pub airs: Vec<AirReport>,
+    /// How many ids the lookups take: one for each bus and each lookup on a bus of its own.
+    pub ids: usize,
+    /// The number of values of the widest tuple, at least 1.
+    pub widest: usize,
+    /// The sum of weights times heights.
+    pub height_sum: u128,
+    /// The characteristic, which is above that sum.
+    pub characteristic: u128,
+    /// How many messages there are at the most, whatever the traces are, and how few challenges
+    /// accept a batch that does not balance.
+    pub heights: HeightSoundness,
+}
+
+/// What is found of a batch over traces, over a field with elements `F`.
+#[derive(Debug, Drop)]
+pub struct Report<F> {
+    pub plan: PlanReport,
+    /// How many messages there are over these traces, and how few challenges accept a batch that
+    /// does not balance.
+    pub counts: SoundnessCount,
+    /// The table of buses; see `lookup::debug_util::bus_table`.
+    pub groups: Vec<BusGroup<F>>,
+    /// Whether all messages balance.
+    pub balanced: bool,
+}

@@ -1,0 +1,223 @@
+//! The sections of a report, as text.
+ghost use Rattle.std.specs.Prelude.{◌≡◌, ◌++◌, ℕ, List, OnOk};
+ghost use Rattle.lookup_judge.specs.Runs.{verdict_line};
+
+use crate::bits::push_bits;
+use crate::page::{Page, head, number_cell, numbers_cell, shown_cell, word_cell};
+use crate::report::{AirReport, PlanReport, Report};
+use crate::unbalanced::push_unbalanced;
+use crate::words::{air_at, bus_named};
+use field::{MontyField31, MontyParameters};
+use lookup::debug_util::{BusGroup, GroupName};
+use lookup_names::bytes_of;
+use lookup_text::BatchText;
+use lookup_words::FieldName;
+use std::alloc::AllocError;
+
+/// What the sections of a report are told with.
+#[derive(Clone, Copy)]
+pub(crate) struct Told<'a> {
+    /// The text of the batch.
+    pub(crate) text: &'a [u8],
+    pub(crate) batch: &'a BatchText,
+    pub(crate) field: FieldName,
+    /// How many unbalanced tuples of a bus are told, and how many places of a tuple.
+    pub(crate) limit: usize,
+    /// The degree within which columns are packed.
+    pub(crate) max_degree: usize,
+}
+
+/// Appends a report of a batch over its traces.
+pub(crate) fn push_report<const P: u32, K: MontyParameters<P>>(
+    page: &mut Page,
+    told: Told<'_>,
+    report: &Report<MontyField31<P, K>>,
+) -> Result<(), AllocError>
+    ensures { OnOk result ((front : List ℕ)
+        × (page.new.bytes.items ≡ front ++ verdict_line report.now.balanced)) }
+{
+    push_airs(page, told, &report.plan.airs)?;
+    push_heights(page, &report.plan)?;
+    push_buses(page, told, &report.groups)?;
+    push_unbalanced(page, told, &report.groups)?;
+    push_soundness(page, told, report)?;
+    if report.balanced {
+        page.word("\nBALANCED: every tuple of every bus and local lookup cancels\n")
+    } else {
+        page.word("\nNOT BALANCED\n")
+    }
+}
+
+/// Appends a report of a batch whose traces are not there yet.
+pub(crate) fn push_plan(
+    page: &mut Page,
+    told: Told<'_>,
+    report: &PlanReport,
+) -> Result<(), AllocError> {
+    push_airs(page, told, &report.airs)?;
+    push_heights(page, report)?;
+    page.word("\nSOUNDNESS\n")?;
+    push_all_traces(page, told, report)
+}
+
+/// Appends a line for each AIR.
+pub(crate) fn push_airs(
+    page: &mut Page,
+    told: Told<'_>,
+    airs: &[AirReport],
+) -> Result<(), AllocError> {
+    let alloc = page.alloc();
+    page.word("AIRS (packed: within degree ")?;
+    page.number(told.max_degree as u128)?;
+    page.word(")\n")?;
+    let titles = [
+        "air", "rows", "columns", "lookups", "weight", "degrees", "packed", "degrees",
+    ];
+    let mut lines = Vec::new(alloc);
+    lines.push(head(alloc, &titles)?)?;
+    for (index, air) in airs.iter().enumerate() {
+        let name = match air_at(told.batch, index) {
+            Some(said) => bytes_of(told.text, said.name),
+            None => &[],
+        };
+        let mut cells = Vec::new(alloc);
+        cells.push(shown_cell(alloc, name)?)?;
+        cells.push(number_cell(alloc, air.rows as u128)?)?;
+        cells.push(number_cell(alloc, air.columns as u128)?)?;
+        cells.push(number_cell(alloc, air.degrees.len() as u128)?)?;
+        cells.push(number_cell(alloc, air.weight)?)?;
+        cells.push(numbers_cell(alloc, &air.degrees)?)?;
+        cells.push(number_cell(alloc, air.packed.len() as u128)?)?;
+        cells.push(numbers_cell(alloc, &air.packed)?)?;
+        lines.push(cells)?;
+    }
+    page.table(&lines, &[false, true, true, true, true, false, true, false])
+}
+
+/// Appends the height bound.
+fn push_heights(page: &mut Page, report: &PlanReport) -> Result<(), AllocError> {
+    page.word("\nHEIGHT BOUND  weights times heights: ")?;
+    page.grouped(report.height_sum)?;
+    page.word(" of ")?;
+    page.grouped(report.characteristic)?;
+    page.word("\n              ids: ")?;
+    page.grouped(report.ids as u128)?;
+    page.word(", widest tuple: ")?;
+    page.grouped(report.widest as u128)?;
+    page.word("\n")
+}
+
+/// Appends a line for each bus.
+fn push_buses<F>(
+    page: &mut Page,
+    told: Told<'_>,
+    groups: &[BusGroup<F>],
+) -> Result<(), AllocError> {
+    let alloc = page.alloc();
+    page.word("\nBUSES (messages whose count is not zero)\n")?;
+    let titles = [
+        "bus",
+        "carries",
+        "sent",
+        "received",
+        "distinct",
+        "unbalanced",
+    ];
+    let mut lines = Vec::new(alloc);
+    lines.push(head(alloc, &titles)?)?;
+    for group in groups {
+        let mut cells = Vec::new(alloc);
+        cells.push(group_cell(page, told, &group.name)?)?;
+        cells.push(carries_cell(page, told, &group.name)?)?;
+        cells.push(number_cell(alloc, group.sent as u128)?)?;
+        cells.push(number_cell(alloc, group.received as u128)?)?;
+        cells.push(number_cell(alloc, group.distinct as u128)?)?;
+        cells.push(if group.unbalanced == 0 {
+            word_cell(alloc, "-")?
+        } else {
+            number_cell(alloc, group.unbalanced as u128)?
+        })?;
+        lines.push(cells)?;
+    }
+    page.table(&lines, &[false, false, true, true, true, true])
+}
+
+/// A cell with the name of a group.
+pub(crate) fn group_cell(
+    page: &Page,
+    told: Told<'_>,
+    group: &GroupName,
+) -> Result<Vec<u8>, AllocError> {
+    let mut cell = Page::new(page.alloc());
+    match group {
+        GroupName::Bus(name) => cell.shown(name.as_bytes())?,
+        GroupName::Local { instance, lookup } => {
+            cell.word("local ")?;
+            if let Some(air) = air_at(told.batch, *instance) {
+                cell.shown(bytes_of(told.text, air.name))?;
+            }
+            cell.word(" ")?;
+            cell.number(*lookup as u128)?;
+        }
+    }
+    Ok(cell.bytes)
+}
+
+/// A cell with the names of the values that a bus carries.
+fn carries_cell(page: &Page, told: Told<'_>, group: &GroupName) -> Result<Vec<u8>, AllocError> {
+    let mut cell = Page::new(page.alloc());
+    if let GroupName::Bus(name) = group {
+        if let Some(bus) = bus_named(told.text, told.batch, name.as_bytes()) {
+            for (index, field) in bus.fields.iter().enumerate() {
+                if index > 0 {
+                    cell.word(", ")?;
+                }
+                cell.shown(bytes_of(told.text, *field))?;
+            }
+        }
+    }
+    Ok(cell.bytes)
+}
+
+/// Appends how many challenges may deceive.
+fn push_soundness<F>(
+    page: &mut Page,
+    told: Told<'_>,
+    report: &Report<F>,
+) -> Result<(), AllocError> {
+    let counts = &report.counts;
+    page.word("\nSOUNDNESS\n  these traces: n = ")?;
+    page.grouped(counts.messages)?;
+    page.word(" distinct messages, k = ")?;
+    page.grouped(counts.unbalanced)?;
+    page.word(" of them unbalanced, widest tuple W = ")?;
+    page.grouped(report.plan.widest as u128)?;
+    page.word("\n")?;
+    if let Some(alphas) = counts.accepting_alphas {
+        let betas = counts.linear_bad_betas();
+        page.word("    all but ")?;
+        page.grouped(betas)?;
+        page.word(" betas leave at most ")?;
+        page.grouped(alphas)?;
+        page.word(" alphas at which any witness is accepted\n")?;
+        push_bits(page, told.field, betas, alphas)?;
+    }
+    push_all_traces(page, told, &report.plan)
+}
+
+/// Appends how many challenges may deceive, whatever the traces are.
+fn push_all_traces(page: &mut Page, told: Told<'_>, report: &PlanReport) -> Result<(), AllocError> {
+    let heights = &report.heights;
+    page.word("  whatever traces of these heights a prover picks: at most ")?;
+    page.grouped(heights.most_messages)?;
+    page.word(" messages\n")?;
+    if let Some(alphas) = heights.accepting_alphas {
+        page.word("    if they do not balance, all but ")?;
+        page.grouped(heights.bad_betas)?;
+        page.word(" betas leave at most ")?;
+        page.grouped(alphas)?;
+        page.word(" alphas\n")?;
+        push_bits(page, told.field, heights.bad_betas, alphas)?;
+    }
+    Ok(())
+}

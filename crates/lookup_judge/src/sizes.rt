@@ -1,0 +1,83 @@
+//! The sizes of AIRs, and what is found of each.
+ghost use Rattle.std.specs.Prelude.{◌≡◌, ◌-◌, ◌^◌, IfOk, map, min};
+ghost use Rattle.std.specs.List.{AllZip};
+ghost use Rattle.lookup.specs.Lookups.{lookups_of};
+ghost use Rattle.lookup_judge.specs.Found.{IsAirFound, height_sum};
+ghost use Rattle.lookup_judge.specs.internal.Airs.{size_of};
+ghost use Rattle.lookup_model.specs.LookupDegree.{lookup_degree};
+
+use crate::fault::JudgeFault;
+use crate::report::AirReport;
+use field::Field;
+use lookup::{LogUpGadget, LookupError, LookupProtocol, Lookups};
+use std::alloc::Global;
+
+/// The lookups of an AIR, and how many rows and columns its main trace has.
+#[derive(Clone, Copy)]
+pub(crate) struct SizedAir<'a, F> {
+    pub(crate) lookups: &'a Lookups<F>,
+    pub(crate) rows: usize,
+    pub(crate) columns: usize,
+}
+
+/// What is found of each AIR, with columns packed within this degree.
+pub(crate) fn reports_of<F: Field>(
+    alloc: Global,
+    airs: &[SizedAir<'_, F>],
+    max_degree: usize,
+) -> Result<Vec<AirReport>, JudgeFault>
+    ensures { IfOk result (λ v. AllZip (λ air found. IsAirFound F.ring F.eq max_degree (size_of air) found)
+        airs.now v.items) }
+{
+    let mut reports = Vec::new(alloc);
+    for index in 0..airs.len() {
+        match report_of(alloc, &airs[index], max_degree) {
+            Ok(report) => reports.push(report)?,
+            Err(LookupError::Memory) => return Err(JudgeFault::Memory),
+            Err(error) => return Err(JudgeFault::Lookups { air: index, error }),
+        }
+    }
+    Ok(reports)
+}
+
+/// What is found of an AIR.
+fn report_of<F: Field>(
+    alloc: Global,
+    air: &SizedAir<'_, F>,
+    max_degree: usize,
+) -> Result<AirReport, LookupError>
+    ensures { IfOk result (IsAirFound F.ring F.eq max_degree (size_of air.now)) }
+{
+    let copy = air.lookups.copy(alloc)?;
+    let packed = copy.pack_same_bus(alloc, &LogUpGadget::new(), max_degree)?;
+    Ok(AirReport {
+        rows: air.rows,
+        columns: air.columns,
+        weight: air.lookups.total_count_weight(),
+        degrees: degrees_of(alloc, air.lookups)?,
+        packed: degrees_of(alloc, &packed)?,
+    })
+}
+
+/// The degree of the constraint of each lookup.
+fn degrees_of<F: Field>(alloc: Global, lookups: &Lookups<F>) -> Result<Vec<usize>, LookupError>
+    ensures { IfOk result (λ v. v.items ≡ map (lookup_degree 0) (lookups_of lookups.now)) }
+{
+    let mut degrees = Vec::new(alloc);
+    for lookup in lookups.as_slice() {
+        degrees.push(LogUpGadget::new().constraint_degree(lookup)?)?;
+    }
+    Ok(degrees)
+}
+
+/// The sum of weights times heights, or the greatest `u128`.
+pub(crate) fn height_sum<F: Field>(airs: &[SizedAir<'_, F>]) -> u128
+    ensures { result ≡ min (height_sum (map size_of airs.now)) (2 ^ 128 - 1) }
+{
+    let mut sum = 0u128;
+    for air in airs {
+        let weight = air.lookups.total_count_weight();
+        sum = sum.saturating_add(weight.saturating_mul(air.rows as u128));
+    }
+    sum
+}

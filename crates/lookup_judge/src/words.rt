@@ -1,0 +1,84 @@
+//! What a text says of the AIRs and buses of a report, found again by their numbers.
+use lookup_names::bytes_of;
+use lookup_text::{AirText, BatchText, BusText, ItemText, PlacedItem, SectionText, Span, Verb};
+
+/// The AIR with this number.
+pub(crate) fn air_at(batch: &BatchText, air: usize) -> Option<&AirText> {
+    let mut before = air;
+    for section in &batch.sections {
+        if let SectionText::Air(found) = section {
+            if before == 0 {
+                return Some(found);
+            }
+            before -= 1;
+        }
+    }
+    None
+}
+
+/// The declaration of the bus with this name.
+pub(crate) fn bus_named<'a>(text: &[u8], batch: &'a BatchText, name: &[u8]) -> Option<&'a BusText> {
+    for section in &batch.sections {
+        if let SectionText::Bus(bus) = section {
+            if bytes_of(text, bus.name) == name {
+                return Some(bus);
+            }
+        }
+    }
+    None
+}
+
+/// The item with the lookup of this number.
+pub(crate) fn lookup_at(air: &AirText, lookup: usize) -> Option<&PlacedItem> {
+    air.items
+        .iter()
+        .filter(|item| is_lookup(&item.item))
+        .nth(lookup)
+}
+
+fn is_lookup(item: &ItemText) -> bool {
+    matches!(
+        item,
+        ItemText::Message(_) | ItemText::Together(_) | ItemText::Exclusive(_)
+    )
+}
+
+/// The word with which an item with a lookup begins.
+pub(crate) fn first_word(item: &ItemText) -> &'static str {
+    match item {
+        ItemText::Message(message) => match message.verb {
+            Verb::Query => "query",
+            Verb::Provide => "provide",
+            Verb::Send => "send",
+            Verb::Receive => "receive",
+        },
+        ItemText::Together(_) => "together",
+        _ => "exclusive",
+    }
+}
+
+/// The file of the main or the preprocessed trace of an AIR.
+pub(crate) fn trace_file(air: &AirText, preprocessed: bool) -> Option<Span> {
+    for item in &air.items {
+        match &item.item {
+            ItemText::Trace(file) if !preprocessed => return Some(*file),
+            ItemText::Preprocessed(file) if preprocessed => return Some(*file),
+            _ => {}
+        }
+    }
+    None
+}
+
+/// The name of the public value with this number.
+pub(crate) fn public_name<'a>(text: &'a [u8], air: &AirText, index: usize) -> &'a [u8] {
+    let mut before = index;
+    for item in &air.items {
+        if let ItemText::Public(name, _) = &item.item {
+            if before == 0 {
+                return bytes_of(text, *name);
+            }
+            before -= 1;
+        }
+    }
+    &[]
+}

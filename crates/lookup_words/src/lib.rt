@@ -1,0 +1,14 @@
+//! The command line of the program `lookup-check`: what its words ask for.
+#![tactic(auto)]
+
+mod bits;
+mod commands;
+mod line;
+mod reading;
+mod refusal;
+mod request;
+
+pub use bits::bits_of;
+pub use line::asked;
+pub use refusal::WordsRefusal;
+pub use request::{Asked, FieldName};
