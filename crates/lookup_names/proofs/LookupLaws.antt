@@ -3,16 +3,17 @@ use Rattle.std.proofs.Common.{◌++◌, ℕ, List, Result, Ok}
 use Rattle.lookup_names.specs.declared.fault.NameRefusal.{NameRefusal}
 use Rattle.lookup_names.specs.Faults.{◌>>=◌}
 use Rattle.lookup_names.specs.Lookups.{Column, Said, SentPart}
+use Rattle.lookup_names.specs.Room.{InRoom}
 use Rattle.lookup_names.specs.Scopes.{Names}
 use Rattle.lookup_names.specs.Values.{Meant}
 
 -- messages before those that are to come
-abbrev pub with_parts : List SentPart → Result (List SentPart) NameRefusal → Result (List SentPart) NameRefusal
-with_parts front read = read >>= λ ps. Ok (front ++ ps)
+abbrev pub with_parts : List SentPart → Result (InRoom (List SentPart)) NameRefusal → Result (InRoom (List SentPart)) NameRefusal
+with_parts front read = read >>= λ ps. Ok (front ++ ps.0, ps.1)
 
 -- lookups and public values before those that are to come
 abbrev pub with_said : List Column → List ℕ → Result Said NameRefusal → Result Said NameRefusal
-with_said columns values read = read >>= λ s. Ok (record { columns = columns ++ s.columns; public_values = values ++ s.public_values })
+with_said columns values read = read >>= λ s. Ok (record { columns = columns ++ s.columns; public_values = values ++ s.public_values; room = s.room })
 
 -- names with these definitions
 abbrev pub names_with : Names → List (List ℕ × Meant) → Names

@@ -2,8 +2,9 @@
 use Rattle.std.proofs.Common.{◌++◌, List, Result, Ok}
 use Rattle.lookup_names.specs.declared.fault.NameRefusal.{NameRefusal}
 use Rattle.lookup_names.specs.Faults.{◌>>=◌}
+use Rattle.lookup_names.specs.Room.{InRoom}
 use Rattle.lookup_names.specs.Values.{Meant}
 
 -- values before those that are to come
-abbrev pub with_values : List Meant → Result (List Meant) NameRefusal → Result (List Meant) NameRefusal
-with_values front read = read >>= λ ms. Ok (front ++ ms)
+abbrev pub with_values : List Meant → Result (InRoom (List Meant)) NameRefusal → Result (InRoom (List Meant)) NameRefusal
+with_values front read = read >>= λ ms. Ok (front ++ ms.0, ms.1)

@@ -8,6 +8,7 @@ use Rattle.lookup_names.specs.declared.fault.NameRefusal.{NameRefusal}
 use Rattle.lookup_names.specs.declared.fault.NameWhy.TheVariants.{NoWeight}
 use Rattle.lookup_names.specs.declared.message.NamedMessage.{NamedMessage}
 use Rattle.lookup_names.specs.Faults.{◌>>=◌, refused}
+use Rattle.lookup_names.specs.Room.{InRoom}
 use Rattle.lookup_names.specs.Scopes.{Names, meaning}
 use Rattle.lookup_names.specs.Values.{Meant, meant_of, negative, number}
 
@@ -22,10 +23,10 @@ pub record Sent : Type 0 where
 abbrev pub sent_of : NamedMessage → Sent
 sent_of m = record { at = m.at; tuple = map meant_of m.tuple.items; count = meant_of m.count; weight = m.weight }
 
--- what each formula means
-abbrev pub all_meant : Names → List Formula → Result (List Meant) NameRefusal
-all_meant names [] = Ok []
-all_meant names (f ∷ fs) = meaning names f >>= λ m. all_meant names fs >>= λ ms. Ok (m ∷ ms)
+-- what each formula means, in the room that those before it leave
+abbrev pub all_meant : Names → List Formula → ℕ → Result (InRoom (List Meant)) NameRefusal
+all_meant names [] room = Ok ([], room)
+all_meant names (f ∷ fs) room = meaning names f room >>= λ x. all_meant names fs x.1 >>= λ xs. Ok (x.0 ∷ xs.0, xs.1)
 
 -- a query and a send count with a plus, a provision and a receipt with a minus
 abbrev pub signed : Verb → Meant → Meant
@@ -34,14 +35,14 @@ signed Send m = m
 signed Provide m = negative m
 signed Receive m = negative m
 
--- how often a message counts: once, or as often as is said
-unfoldable pub times_of : Names → Option Formula → Result Meant NameRefusal
-times_of names None = Ok (number 1)
-times_of names (Some f) = meaning names f
+-- how often a message counts: once, which takes no room, or as often as is said
+unfoldable pub times_of : Names → Option Formula → ℕ → Result (InRoom Meant) NameRefusal
+times_of names None room = Ok (number 1, room)
+times_of names (Some f) room = meaning names f room
 
--- how often a message counts, with its sign
-unfoldable pub count_of : Names → Message → Result Meant NameRefusal
-count_of names m = times_of names m.times >>= λ times. Ok (signed m.verb times)
+-- how often a message counts, with its sign, which takes no room
+unfoldable pub count_of : Names → Message → ℕ → Result (InRoom Meant) NameRefusal
+count_of names m room = times_of names m.times room >>= λ times. Ok (signed m.verb times.0, times.1)
 
 -- a count that is a number
 unfoldable pub constant_of : ℕ → Option Formula → Result ℕ NameRefusal
@@ -63,10 +64,10 @@ weight_by verb most = most
 unfoldable pub weight_of : Message → Result ℕ NameRefusal
 weight_of m = weight_by m.verb (most_of m.at m.at_most m.times)
 
--- what a message sends, how often, and its weight
-unfoldable pub sent : Names → Message → Result Sent NameRefusal
-sent names m = do
-  tuple ← all_meant names m.tuple
-  count ← count_of names m
+-- what a message sends, how often, and its weight; the tuple leaves room for the count
+unfoldable pub sent : Names → Message → ℕ → Result (InRoom Sent) NameRefusal
+sent names m room = do
+  tuple ← all_meant names m.tuple room
+  count ← count_of names m tuple.1
   weight ← weight_of m
-  Ok (record { at = m.at; tuple = tuple; count = count; weight = weight })
+  Ok (record { at = m.at; tuple = tuple.0; count = count.0; weight = weight }, count.1)

@@ -4,12 +4,12 @@ use Rattle.std.specs.Str.{bytes_eq}
 use Rattle.lookup_text.specs.declared.token.Span.{Span}
 use Rattle.lookup_text.specs.Formulas.{Formula, name, next, number, negative, sum, difference, product, power}
 use Rattle.lookup_names.specs.declared.fault.NameRefusal.{NameRefusal}
-use Rattle.lookup_names.specs.declared.fault.NameWhy.TheVariants.{UnknownName, UnknownColumn, LargeExpression}
+use Rattle.lookup_names.specs.declared.fault.NameWhy.TheVariants.{UnknownName, UnknownColumn, LargeExpression, DeepExpression}
 use Rattle.lookup_names.specs.declared.scope.Defined.{Defined}
 use Rattle.lookup_names.specs.declared.scope.Scope.{Scope}
 use Rattle.lookup_names.specs.Faults.{◌>>=◌, or_refused, refused}
-use Rattle.lookup_names.specs.declared.value.Value.{Value}
-use Rattle.lookup_names.specs.Values.{Meant, meant_of, powers, size_of}
+use Rattle.lookup_names.specs.Room.{InRoom}
+use Rattle.lookup_names.specs.Values.{Meant, layers_of, meant_of, powers, size_of}
 use Rattle.lookup_names.specs.Values as values
 
 -- the text that names stand in, the names of columns, and the definitions
@@ -84,20 +84,12 @@ named names span = let bytes = bytes_in span names.text in or_refused UnknownNam
 unfoldable pub next_named : Names → Span → Result Meant NameRefusal
 next_named names span = or_refused UnknownColumn span.start (cell_of names (bytes_in span names.text) 1)
 
--- a value and how much room is left for further nodes
-abbrev pub InRoom : Type 0
-InRoom = Meant × ℕ
-
--- a value and the room that it leaves, without where it lies in memory
-abbrev pub in_room : Value × ℕ → InRoom
-in_room v = (meant_of v.0, v.1)
-
 -- a value in room for so many nodes
-abbrev pub placed : ℕ → ℕ → Meant → Result InRoom NameRefusal
+abbrev pub placed : ℕ → ℕ → Meant → Result (InRoom Meant) NameRefusal
 placed at room m = if nat_le (size_of m) room then Ok (m, room - size_of m) else refused LargeExpression at
 
 -- what a name stands for, in room for so many nodes
-abbrev pub named_in : Names → Span → ℕ → Result InRoom NameRefusal
+abbrev pub named_in : Names → Span → ℕ → Result (InRoom Meant) NameRefusal
 named_in names span room = named names span >>= λ m. placed span.start room m
 
 -- where the first name or number of a formula begins
@@ -112,7 +104,7 @@ front_of (product f g) = front_of f
 front_of (power f n) = front_of f
 
 -- what a formula means, in room for so many nodes: each part leaves room for the next
-abbrev pub meaning_in : Names → Formula → ℕ → Result InRoom NameRefusal
+abbrev pub meaning_in : Names → Formula → ℕ → Result (InRoom Meant) NameRefusal
 meaning_in names (name s) room = named_in names s room
 meaning_in names (next s) room = next_named names s >>= λ m. placed s.start room m
 meaning_in names (number n s) room = placed s.start room (values.number n)
@@ -122,6 +114,10 @@ meaning_in names (difference f g) room = meaning_in names f (room - 1) >>= λ x.
 meaning_in names (product f g) room = meaning_in names f (room - 1) >>= λ x. meaning_in names g x.1 >>= λ y. Ok (values.product x.0 y.0, y.1)
 meaning_in names (power f n) room = meaning_in names f room >>= λ x. placed (front_of f) room (powers (n - 1) x.0)
 
--- what a formula means, in room for 65,536 nodes
-abbrev pub meaning : Names → Formula → Result Meant NameRefusal
-meaning names f = meaning_in names f 65536 >>= λ x. Ok x.0
+-- a value of at most 1,024 layers
+abbrev pub layered : ℕ → InRoom Meant → Result (InRoom Meant) NameRefusal
+layered at x = if nat_le (layers_of x.0) 1024 then Ok x else refused DeepExpression at
+
+-- what a formula means, in at most 1,024 layers and in room for so many nodes
+abbrev pub meaning : Names → Formula → ℕ → Result (InRoom Meant) NameRefusal
+meaning names f room = meaning_in names f room >>= λ x. layered (front_of f) x

@@ -1,5 +1,5 @@
 -- Values over columns by their numbers, without the addresses of their boxes.
-use Rattle.std.specs.Prelude.{◌+◌, ℕ, zero, suc}
+use Rattle.std.specs.Prelude.{◌+◌, ℕ, zero, suc, max}
 use Rattle.lookup_names.specs.declared.value.Value.{Value, Main, Preprocessed, Public, FirstRow, LastRow, Transition, Number, Negative', Sum', Difference', Product'}
 
 -- an expression over cells, public values, selectors and numbers; of a cell the row, 0 or 1, and the column
@@ -48,3 +48,17 @@ size_of (negative m) = size_of m + 1
 size_of (sum m n) = size_of m + size_of n + 1
 size_of (difference m n) = size_of m + size_of n + 1
 size_of (product m n) = size_of m + size_of n + 1
+
+-- how many layers a value has: one for each operator or sign over what is deepest
+abbrev pub layers_of : Meant → ℕ
+layers_of (main offset column) = 1
+layers_of (preprocessed offset column) = 1
+layers_of (public index) = 1
+layers_of first_row = 1
+layers_of last_row = 1
+layers_of transition = 1
+layers_of (number n) = 1
+layers_of (negative m) = layers_of m + 1
+layers_of (sum m n) = max (layers_of m) (layers_of n) + 1
+layers_of (difference m n) = max (layers_of m) (layers_of n) + 1
+layers_of (product m n) = max (layers_of m) (layers_of n) + 1

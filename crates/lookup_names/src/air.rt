@@ -1,5 +1,5 @@
 //! The lookups of an AIR.
-ghost use Rattle.std.specs.Prelude.{◌≡◌, Ok, map, option_map};
+ghost use Rattle.std.specs.Prelude.{◌≡◌, IfOk, map, option_map};
 ghost use Rattle.lookup_text.specs.Batches.{section_of};
 ghost use Rattle.lookup_text.specs.Formulas.{formula_of};
 ghost use Rattle.lookup_text.specs.Items.{part_of as said_part, placed_of};
@@ -7,6 +7,7 @@ ghost use Rattle.lookup_text.specs.Messages.{message_of as said_by};
 ghost use Rattle.lookup_names.specs.Faults.{Gives};
 ghost use Rattle.lookup_names.specs.Lookups.{addition, addition_of, bus_kept, column_alone, column_of, column_together, flag_meant, message_on, names_for, new_name, part_of, part_on, parts_on, said_by_items, said_of};
 ghost use Rattle.lookup_names.specs.Messages.{sent_of};
+ghost use Rattle.lookup_names.specs.Room.{in_room};
 ghost use Rattle.lookup_names.specs.Scopes.{bytes_in, defined_of, names_of};
 ghost use Rattle.lookup_names.specs.Values.{meant_of};
 
@@ -18,7 +19,7 @@ use crate::value::Value;
 use lookup_text::{
     AirText, BatchText, ItemText, MessageText, PartText, PlacedItem, SectionText, Span, Tree,
 };
-use std::alloc::Global;
+use std::alloc::{AllocError, Global};
 
 /// A message of a lookup, in an exclusive lookup with its flag.
 #[derive(Debug, Drop)]
@@ -45,6 +46,8 @@ pub struct NamedLookup {
 pub struct NamedAir {
     pub lookups: Vec<NamedLookup>,
     pub public_values: Vec<u64>,
+    /// How many nodes the expressions of further AIRs may have.
+    pub room: usize,
 }
 
 /// What an item adds to the lookups and names before it.
@@ -59,10 +62,15 @@ enum Added {
 /// The lookups of an AIR over these columns of its main and its preprocessed trace, and its public
 /// values. A definition or a public value stands for its name in all later items.
 ///
+/// All expressions together have room for so many nodes: each leaves room for those after it, and
+/// the answer says how much is left for further AIRs. A definition takes room where it stands, and
+/// again where its name does.
+///
 /// Refuses the first fault from left to right: those of `value_of` and `named_message`; a name that
 /// is defined twice; a bus that is not declared, where the text declares one; a tuple with another
 /// number of values than its bus declares; a message of a group on another bus than the first; a
-/// group without messages; lookups from a file.
+/// group without messages; lookups from a file. It does not call `check_buses`: of two declarations
+/// of a bus the first one counts.
 pub fn lookups_of(
     alloc: Global,
     text: &[u8],
@@ -70,13 +78,16 @@ pub fn lookups_of(
     air: &AirText,
     columns: &[Vec<u8>],
     preprocessed: &[Vec<u8>],
+    room: usize,
 ) -> Result<NamedAir, NameFault>
     ensures { Gives said_of result (said_by_items (map section_of batch.now.sections.items)
-        (names_for text.now columns.now preprocessed.now) 0 (map placed_of air.now.items.items)) }
+        (names_for text.now columns.now preprocessed.now) 0
+        (map placed_of air.now.items.items) room) }
 {
     let mut defined = Vec::new(alloc);
     let mut lookups = Vec::new(alloc);
     let mut public_values = Vec::new(alloc);
+    let mut left = room;
     for item in &air.items {
         let scope = Scope {
             text,
@@ -84,7 +95,10 @@ pub fn lookups_of(
             preprocessed,
             defined: defined.as_slice(),
         };
-        match added_by(alloc, &scope, &batch.sections, public_values.len(), item)? {
+        let publics = public_values.len();
+        let (added, after) = added_by(alloc, &scope, &batch.sections, publics, item, left)?;
+        left = after;
+        match added {
             Added::Nothing => {}
             Added::Definition(definition) => defined.push(definition)?,
             Added::Public(definition, value) => {
@@ -97,10 +111,11 @@ pub fn lookups_of(
     Ok(NamedAir {
         lookups,
         public_values,
+        room: left,
     })
 }
 
-/// What an item adds, after so many public values.
+/// What an item adds, after so many public values, and the room that it leaves.
 #[tactic(auto, unfolding(crate::specs::Lookups::addition_at))]
 fn added_by(
     alloc: Global,
@@ -108,15 +123,16 @@ fn added_by(
     sections: &[SectionText],
     publics: usize,
     item: &PlacedItem,
-) -> Result<Added, NameFault>
-    ensures { Gives addition_of result (addition (map section_of sections.now)
-        (names_of scope.now) publics (placed_of item.now)) }
+    room: usize,
+) -> Result<(Added, usize), NameFault>
+    ensures { Gives (in_room addition_of) result (addition (map section_of sections.now)
+        (names_of scope.now) publics (placed_of item.now) room) }
 {
     match &item.item {
         ItemText::Trace(_)
         | ItemText::Preprocessed(_)
         | ItemText::Height(_)
-        | ItemText::Columns(_) => Ok(Added::Nothing),
+        | ItemText::Columns(_) => Ok((Added::Nothing, room)),
         ItemText::Lookups(_) => Err(NameFault::Refused(NameRefusal {
             at: item.at,
             why: NameWhy::LookupsFile,
@@ -124,89 +140,93 @@ fn added_by(
         ItemText::Public(name, number) => {
             check_new(scope, *name)?;
             let definition = define(alloc, scope, *name, Value::Public(publics))?;
-            Ok(Added::Public(definition, *number))
+            Ok((Added::Public(definition, *number), room))
         }
         ItemText::Let(name, tree) => {
             check_new(scope, *name)?;
-            let value = value_of(alloc, scope, tree)?;
-            Ok(Added::Definition(define(alloc, scope, *name, value)?))
+            let (value, left) = value_of(alloc, scope, tree, room)?;
+            Ok((Added::Definition(define(alloc, scope, *name, value)?), left))
         }
         ItemText::Message(message) => {
-            let lookup = lookup_alone(alloc, scope, sections, message)?;
-            Ok(Added::Lookup(lookup))
+            let (lookup, left) = lookup_alone(alloc, scope, sections, message, room)?;
+            Ok((Added::Lookup(lookup), left))
         }
         ItemText::Together(parts) => {
-            let lookup = group_of(alloc, scope, sections, item.at, false, parts)?;
-            Ok(Added::Lookup(lookup))
+            let (lookup, left) = group_of(alloc, scope, sections, item.at, false, parts, room)?;
+            Ok((Added::Lookup(lookup), left))
         }
         ItemText::Exclusive(parts) => {
-            let lookup = group_of(alloc, scope, sections, item.at, true, parts)?;
-            Ok(Added::Lookup(lookup))
+            let (lookup, left) = group_of(alloc, scope, sections, item.at, true, parts, room)?;
+            Ok((Added::Lookup(lookup), left))
         }
     }
 }
 
 /// Whether a name is not defined before.
-fn check_new(scope: &Scope<'_>, name: Span) -> Result<(), NameFault>
-    ensures { Gives (λ x. x) result (new_name (names_of scope.now) name) }
+fn check_new(scope: &Scope<'_>, name: Span) -> Result<(), NameRefusal>
+    ensures { result ≡ new_name (names_of scope.now) name }
 {
     if defined_value(scope.defined, bytes_of(scope.text, name)).is_some() {
-        return Err(NameFault::Refused(NameRefusal {
+        return Err(NameRefusal {
             at: name.start,
             why: NameWhy::RepeatedDefinition,
-        }));
+        });
     }
     Ok(())
 }
 
 /// A definition of a name.
-fn define(alloc: Global, scope: &Scope<'_>, name: Span, value: Value) -> Result<Defined, NameFault>
-    ensures { Gives defined_of result (Ok (bytes_in name scope.now.text.now, meant_of value)) }
+fn define(alloc: Global, scope: &Scope<'_>, name: Span, value: Value) -> Result<Defined, AllocError>
+    ensures { IfOk result
+        (λ d. defined_of d ≡ (bytes_in name scope.now.text.now, meant_of value)) }
 {
     let name = Vec::from_slice(alloc, bytes_of(scope.text, name))?;
     Ok(Defined { name, value })
 }
 
-/// The lookup of a message in a column of its own.
+/// The lookup of a message in a column of its own, and the room that it leaves.
 #[tactic(auto, unfolding(crate::specs::Lookups::column_alone))]
 fn lookup_alone(
     alloc: Global,
     scope: &Scope<'_>,
     sections: &[SectionText],
     message: &MessageText,
-) -> Result<NamedLookup, NameFault>
-    ensures { Gives column_of result
-        (column_alone (map section_of sections.now) (names_of scope.now) (said_by message.now)) }
+    room: usize,
+) -> Result<(NamedLookup, usize), NameFault>
+    ensures { Gives (in_room column_of) result (column_alone (map section_of sections.now)
+        (names_of scope.now) (said_by message.now) room) }
 {
-    let named = message_on(alloc, scope, sections, message)?;
+    let (named, left) = message_on(alloc, scope, sections, message, room)?;
     let mut parts = Vec::new(alloc);
     parts.push(NamedPart {
         flag: None,
         message: named,
     })?;
-    Ok(NamedLookup {
+    let lookup = NamedLookup {
         at: message.at,
         bus: message.bus,
         exclusive: false,
         parts,
-    })
+    };
+    Ok((lookup, left))
 }
 
-/// What a message sends, on a bus that takes it.
+/// What a message sends, on a bus that takes it, and the room that it leaves.
 fn message_on(
     alloc: Global,
     scope: &Scope<'_>,
     sections: &[SectionText],
     message: &MessageText,
-) -> Result<NamedMessage, NameFault>
-    ensures { Gives sent_of result
-        (message_on (map section_of sections.now) (names_of scope.now) (said_by message.now)) }
+    room: usize,
+) -> Result<(NamedMessage, usize), NameFault>
+    ensures { Gives (in_room sent_of) result (message_on (map section_of sections.now)
+        (names_of scope.now) (said_by message.now) room) }
 {
     check_bus(scope.text, sections, message.bus, message.tuple.len())?;
-    named_message(alloc, scope, message)
+    named_message(alloc, scope, message, room)
 }
 
-/// The lookup of a group that begins here.
+/// The lookup of a group that begins here, and the room that it leaves.
 #[tactic(auto, unfolding(crate::specs::Lookups::column_together))]
 fn group_of(
     alloc: Global,
@@ -215,9 +235,10 @@ fn group_of(
     at: usize,
     exclusive: bool,
     parts: &[PartText],
-) -> Result<NamedLookup, NameFault>
-    ensures { Gives column_of result (column_together (map section_of sections.now)
-        (names_of scope.now) at exclusive (map said_part parts.now)) }
+    room: usize,
+) -> Result<(NamedLookup, usize), NameFault>
+    ensures { Gives (in_room column_of) result (column_together (map section_of sections.now)
+        (names_of scope.now) at exclusive (map said_part parts.now) room) }
 {
     let Some(first) = parts.first() else {
         return Err(NameFault::Refused(NameRefusal {
@@ -226,34 +247,40 @@ fn group_of(
         }));
     };
     let bus = first.message.bus;
-    let parts = parts_on(alloc, scope, sections, bus, parts)?;
-    Ok(NamedLookup {
+    let (parts, left) = parts_on(alloc, scope, sections, bus, parts, room)?;
+    let lookup = NamedLookup {
         at,
         bus,
         exclusive,
         parts,
-    })
+    };
+    Ok((lookup, left))
 }
 
-/// The messages of a group, all of which are on this bus.
+/// The messages of a group, all of which are on this bus, and the room that they leave.
 fn parts_on(
     alloc: Global,
     scope: &Scope<'_>,
     sections: &[SectionText],
     bus: Option<Span>,
     parts: &[PartText],
-) -> Result<Vec<NamedPart>, NameFault>
-    ensures { Gives (λ v. map part_of v.items) result (parts_on (map section_of sections.now)
-        (names_of scope.now) bus (map said_part parts.now)) }
+    room: usize,
+) -> Result<(Vec<NamedPart>, usize), NameFault>
+    ensures { Gives (in_room (λ v. map part_of v.items)) result
+        (parts_on (map section_of sections.now) (names_of scope.now) bus
+        (map said_part parts.now) room) }
 {
     let mut named = Vec::new(alloc);
+    let mut left = room;
     for part in parts {
-        named.push(part_on(alloc, scope, sections, bus, part)?)?;
+        let (one, after) = part_on(alloc, scope, sections, bus, part, left)?;
+        named.push(one)?;
+        left = after;
     }
-    Ok(named)
+    Ok((named, left))
 }
 
-/// A message of a group on this bus, with its flag.
+/// A message of a group on this bus, with its flag, and the room that it leaves.
 #[tactic(auto, unfolding(crate::specs::Lookups::part_on))]
 fn part_on(
     alloc: Global,
@@ -261,41 +288,46 @@ fn part_on(
     sections: &[SectionText],
     bus: Option<Span>,
     part: &PartText,
-) -> Result<NamedPart, NameFault>
-    ensures { Gives part_of result (part_on (map section_of sections.now) (names_of scope.now)
-        bus (said_part part.now)) }
+    room: usize,
+) -> Result<(NamedPart, usize), NameFault>
+    ensures { Gives (in_room part_of) result (part_on (map section_of sections.now)
+        (names_of scope.now) bus (said_part part.now) room) }
 {
-    let flag = flag_value(alloc, scope, &part.flag)?;
+    let (flag, left) = flag_value(alloc, scope, &part.flag, room)?;
     keep_bus(scope, bus, &part.message)?;
-    let message = message_on(alloc, scope, sections, &part.message)?;
-    Ok(NamedPart { flag, message })
+    let (message, left) = message_on(alloc, scope, sections, &part.message, left)?;
+    Ok((NamedPart { flag, message }, left))
 }
 
-/// What the flag of a message means, if it has one.
+/// What the flag of a message means, if it has one, and the room that it leaves.
 fn flag_value(
     alloc: Global,
     scope: &Scope<'_>,
     flag: &Option<Tree>,
-) -> Result<Option<Value>, NameFault>
-    ensures { Gives (option_map meant_of) result
-        (flag_meant (names_of scope.now) (option_map formula_of flag.now)) }
+    room: usize,
+) -> Result<(Option<Value>, usize), NameFault>
+    ensures { Gives (in_room (option_map meant_of)) result
+        (flag_meant (names_of scope.now) (option_map formula_of flag.now) room) }
 {
     match flag {
-        Some(flag) => Ok(Some(value_of(alloc, scope, flag)?)),
-        None => Ok(None),
+        Some(flag) => {
+            let (value, left) = value_of(alloc, scope, flag, room)?;
+            Ok((Some(value), left))
+        }
+        None => Ok((None, room)),
     }
 }
 
 /// Whether a message is on the bus of its group.
-fn keep_bus(scope: &Scope<'_>, bus: Option<Span>, message: &MessageText) -> Result<(), NameFault>
-    ensures { Gives (λ x. x) result (bus_kept (names_of scope.now) bus (said_by message.now)) }
+fn keep_bus(scope: &Scope<'_>, bus: Option<Span>, message: &MessageText) -> Result<(), NameRefusal>
+    ensures { result ≡ bus_kept (names_of scope.now) bus (said_by message.now) }
 {
     if same_bus(scope.text, bus, message.bus) {
         Ok(())
     } else {
-        Err(NameFault::Refused(NameRefusal {
+        Err(NameRefusal {
             at: message.at,
             why: NameWhy::OtherBus,
-        }))
+        })
     }
 }

@@ -2,17 +2,15 @@
 ghost use Rattle.std.specs.Prelude.{◌≡◌, map};
 ghost use Rattle.lookup_text.specs.Batches.{section_of};
 ghost use Rattle.lookup_names.specs.Buses.{bus_checked, buses_of, declared_width, declares_any, distinct_buses, same_bus};
-ghost use Rattle.lookup_names.specs.Faults.{Gives};
 ghost use Rattle.lookup_names.specs.Scopes.{bytes_in};
 
-use crate::fault::{NameFault, NameRefusal, NameWhy};
+use crate::fault::{NameRefusal, NameWhy};
 use crate::scope::bytes_of;
 use lookup_text::{BatchText, SectionText, Span};
 
 /// Whether no bus of a text is declared twice. Refuses the first bus whose name was declared before.
-pub fn check_buses(text: &[u8], batch: &BatchText) -> Result<(), NameFault>
-    ensures { Gives (λ x. x) result
-        (distinct_buses text.now (map section_of batch.now.sections.items)) }
+pub fn check_buses(text: &[u8], batch: &BatchText) -> Result<(), NameRefusal>
+    ensures { result ≡ distinct_buses text.now (map section_of batch.now.sections.items) }
 {
     for index in 0..batch.sections.len() {
         if let SectionText::Bus(bus) = &batch.sections[index] {
@@ -34,9 +32,8 @@ pub(crate) fn check_bus(
     sections: &[SectionText],
     bus: Option<Span>,
     width: usize,
-) -> Result<(), NameFault>
-    ensures { Gives (λ x. x) result
-        (bus_checked text.now (buses_of (map section_of sections.now)) bus width) }
+) -> Result<(), NameRefusal>
+    ensures { result ≡ bus_checked text.now (buses_of (map section_of sections.now)) bus width }
 {
     let Some(name) = bus else {
         return Ok(());
@@ -59,13 +56,13 @@ pub(crate) fn check_bus(
     }
 }
 
-fn refusal(name: Span, why: NameWhy) -> NameFault
-    ensures { result ≡ NameFault.Refused (record { at = name.start; why = why }) }
+fn refusal(name: Span, why: NameWhy) -> NameRefusal
+    ensures { result ≡ record { at = name.start; why = why } }
 {
-    NameFault::Refused(NameRefusal {
+    NameRefusal {
         at: name.start,
         why,
-    })
+    }
 }
 
 /// How many values a tuple on the bus with this name has, if that is declared.

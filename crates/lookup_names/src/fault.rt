@@ -1,6 +1,6 @@
 //! Why names or messages are refused, and where.
 ghost use Rattle.std.specs.Prelude.{◌≡◌};
-ghost use Rattle.lookup_names.specs.declared.fault.NameFault.TheVariants.{Memory};
+ghost use Rattle.lookup_names.specs.declared.fault.NameFault.TheVariants.{Memory, Refused};
 
 use std::alloc::{AllocError, AllocFailed};
 
@@ -13,9 +13,12 @@ pub enum NameWhy {
     UnknownColumn,
     /// How often a message counts depends on the row, and the most is not said.
     NoWeight,
-    /// An expression has more than 65,536 nodes, where each name stands for its value and a power
-    /// for its factors.
+    /// There is no room for the nodes of an expression, where each name stands for its value and a
+    /// power for its factors.
     LargeExpression,
+    /// An expression has more than 1,024 layers, where each name stands for its value and a power
+    /// for its products.
+    DeepExpression,
     /// A name has a definition before this one.
     RepeatedDefinition,
     /// A bus was declared before with this name.
@@ -46,6 +49,14 @@ pub enum NameFault {
     Memory,
     /// The first fault from left to right.
     Refused(NameRefusal),
+}
+
+impl From<NameRefusal> for NameFault {
+    ghost from_gives = { λ r e. e ≡ Refused r };
+
+    fn from(refusal: NameRefusal) -> NameFault {
+        NameFault::Refused(refusal)
+    }
 }
 
 impl From<AllocError> for NameFault {

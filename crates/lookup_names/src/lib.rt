@@ -8,6 +8,7 @@ mod bus;
 mod fault;
 mod message;
 mod scope;
+mod theorems;
 mod value;
 
 pub use air::{NamedAir, NamedLookup, NamedPart, lookups_of};
@@ -15,4 +16,5 @@ pub use bus::check_buses;
 pub use fault::{NameFault, NameRefusal, NameWhy};
 pub use message::{NamedMessage, named_message};
 pub use scope::{Defined, Scope, bytes_of, value_of};
+pub use theorems::room_is_taken;
 pub use value::{Value, copy_of};

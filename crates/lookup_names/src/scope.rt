@@ -3,11 +3,12 @@ ghost use Rattle.std.specs.Prelude.{◌≡◌, ◌-◌, map, option_map, positio
 ghost use Rattle.std.specs.Str.{bytes_eq};
 ghost use Rattle.lookup_text.specs.Formulas.{formula_of};
 ghost use Rattle.lookup_names.specs.Faults.{Gives};
-ghost use Rattle.lookup_names.specs.Scopes.{bytes_in, cell_of, defined_of, definition, fixed_name, front_of, in_room, meaning, meaning_in, named_in, names_of, next_named, place_of, placed, selector_of};
+ghost use Rattle.lookup_names.specs.Room.{in_room};
+ghost use Rattle.lookup_names.specs.Scopes.{bytes_in, cell_of, defined_of, definition, fixed_name, front_of, meaning, meaning_in, named_in, names_of, next_named, place_of, placed, selector_of};
 ghost use Rattle.lookup_names.specs.Values.{meant_of, powers};
 
 use crate::fault::{NameFault, NameRefusal, NameWhy};
-use crate::value::{Value, copy_of, power_of, room_after, room_after_power};
+use crate::value::{Value, copy_of, has_layers, power_of, room_after, room_after_power};
 use lookup_text::{Span, Tree};
 use std::alloc::Global;
 
@@ -32,30 +33,42 @@ pub struct Scope<'a> {
     pub defined: &'a [Defined],
 }
 
-/// How many nodes the value of an expression may have.
-const MAX_NODES: usize = 65_536;
+/// How many layers the value of an expression may have. Walks over values take stack for each.
+const MAX_LAYERS: usize = 1024;
 
-/// What an expression means: each name is the value that it stands for, and that of the next row
-/// the cell there.
+/// What an expression means, and how much it leaves of the room for so many nodes: each name is
+/// the value that it stands for, and that of the next row the cell there.
 ///
-/// Refuses the first name that stands for nothing, or what comes first with more than 65,536 nodes
-/// so far: a name or a number, or a power at the first name or number in it. The nodes are counted
-/// before anything is copied.
-pub fn value_of(alloc: Global, scope: &Scope<'_>, tree: &Tree) -> Result<Value, NameFault>
-    ensures { Gives meant_of result (meaning (names_of scope.now) (formula_of tree.now)) }
+/// Refuses the first name that stands for nothing, or what comes first with more nodes so far than
+/// there is room for: a name or a number, or a power at the first name or number in it. The nodes
+/// are counted before anything is copied. Then a value of more than 1,024 layers is refused, at the
+/// first name or number.
+pub fn value_of(
+    alloc: Global,
+    scope: &Scope<'_>,
+    tree: &Tree,
+    room: usize,
+) -> Result<(Value, usize), NameFault>
+    ensures { Gives (in_room meant_of) result
+        (meaning (names_of scope.now) (formula_of tree.now) room) }
 {
-    let (value, _) = value_in(alloc, scope, tree, MAX_NODES)?;
-    Ok(value)
+    let (value, left) = value_in(alloc, scope, tree, room)?;
+    if has_layers(&value, MAX_LAYERS) {
+        Ok((value, left))
+    } else {
+        Err(refusal(front_of(tree), NameWhy::DeepExpression))
+    }
 }
 
-/// What an expression means, and how much room it leaves.
+/// What an expression means, in any number of layers, and how much room it leaves.
 fn value_in(
     alloc: Global,
     scope: &Scope<'_>,
     tree: &Tree,
     room: usize,
 ) -> Result<(Value, usize), NameFault>
-    ensures { Gives in_room result (meaning_in (names_of scope.now) (formula_of tree.now) room) }
+    ensures { Gives (in_room meant_of) result
+        (meaning_in (names_of scope.now) (formula_of tree.now) room) }
 {
     let inner = room.saturating_sub(1);
     match tree {
@@ -111,11 +124,11 @@ fn front_of(tree: &Tree) -> usize
 
 /// A value with the room that it leaves, if there is room for it.
 fn within(value: Value, at: usize, room: usize) -> Result<(Value, usize), NameFault>
-    ensures { Gives in_room result (placed at room (meant_of value)) }
+    ensures { Gives (in_room meant_of) result (placed at room (meant_of value)) }
 {
     match room_after(&value, room) {
         Some(left) => Ok((value, left)),
-        None => Err(too_large(at)),
+        None => Err(refusal(at, NameWhy::LargeExpression)),
     }
 }
 
@@ -126,11 +139,11 @@ fn copy_within(
     at: usize,
     room: usize,
 ) -> Result<(Value, usize), NameFault>
-    ensures { Gives in_room result (placed at room (meant_of value.now)) }
+    ensures { Gives (in_room meant_of) result (placed at room (meant_of value.now)) }
 {
     match room_after(value, room) {
         Some(left) => Ok((copy_of(alloc, value)?, left)),
-        None => Err(too_large(at)),
+        None => Err(refusal(at, NameWhy::LargeExpression)),
     }
 }
 
@@ -142,21 +155,19 @@ fn power_within(
     at: usize,
     room: usize,
 ) -> Result<(Value, usize), NameFault>
-    ensures { Gives in_room result (placed at room (powers (exponent - 1) (meant_of base.now))) }
+    ensures { Gives (in_room meant_of) result
+        (placed at room (powers (exponent - 1) (meant_of base.now))) }
 {
     match room_after_power(base, exponent, room) {
         Some(left) => Ok((power_of(alloc, base, exponent)?, left)),
-        None => Err(too_large(at)),
+        None => Err(refusal(at, NameWhy::LargeExpression)),
     }
 }
 
-fn too_large(at: usize) -> NameFault
-    ensures { result ≡ NameFault.Refused (record { at = at; why = NameWhy.LargeExpression }) }
+fn refusal(at: usize, why: NameWhy) -> NameFault
+    ensures { result ≡ NameFault.Refused (record { at = at; why = why }) }
 {
-    NameFault::Refused(NameRefusal {
-        at,
-        why: NameWhy::LargeExpression,
-    })
+    NameFault::Refused(NameRefusal { at, why })
 }
 
 /// The value that a name stands for, and how much room it leaves.
@@ -167,7 +178,7 @@ fn named_value(
     span: Span,
     room: usize,
 ) -> Result<(Value, usize), NameFault>
-    ensures { Gives in_room result (named_in (names_of scope.now) span room) }
+    ensures { Gives (in_room meant_of) result (named_in (names_of scope.now) span room) }
 {
     let name = bytes_of(scope.text, span);
     if let Some(value) = defined_value(scope.defined, name) {
@@ -178,10 +189,7 @@ fn named_value(
     }
     match cell(scope, name, 0) {
         Some(value) => within(value, span.start, room),
-        None => Err(NameFault::Refused(NameRefusal {
-            at: span.start,
-            why: NameWhy::UnknownName,
-        })),
+        None => Err(refusal(span.start, NameWhy::UnknownName)),
     }
 }
 
@@ -192,12 +200,7 @@ fn next_value(scope: &Scope<'_>, span: Span) -> Result<Value, NameFault>
 {
     match cell(scope, bytes_of(scope.text, span), 1) {
         Some(value) => Ok(value),
-        None => {
-            Err(NameFault::Refused(NameRefusal {
-                at: span.start,
-                why: NameWhy::UnknownColumn,
-            }))
-        }
+        None => Err(refusal(span.start, NameWhy::UnknownColumn)),
     }
 }
 

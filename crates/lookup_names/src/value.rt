@@ -1,6 +1,6 @@
 //! Values over columns by their numbers.
-ghost use Rattle.std.specs.Prelude.{◌≡◌, ◌-◌, ◌+◌, ◌<◌, ◌≤◌, IfOk, MatchOption};
-ghost use Rattle.lookup_names.specs.Values.{meant_of, powers, size_of};
+ghost use Rattle.std.specs.Prelude.{◌≡◌, ◌-◌, ◌+◌, ◌<◌, ◌≤◌, ◌↔◌, IfOk, IsTrue, MatchOption};
+ghost use Rattle.lookup_names.specs.Values.{layers_of, meant_of, powers, size_of};
 
 use std::alloc::{AllocError, Global};
 
@@ -104,4 +104,20 @@ pub(crate) fn room_after_power(base: &Value, exponent: u64, room: usize) -> Opti
     let copies = further.checked_mul(size)?;
     let nodes = copies.checked_add(further)?.checked_add(size)?;
     room.checked_sub(nodes)
+}
+
+/// Whether a value has at most so many layers. Looks no deeper than that.
+#[tactic(auto, using(crate::proofs::ValueLaws::layers_of_positive))]
+pub(crate) fn has_layers(value: &Value, most: usize) -> bool
+    ensures { IsTrue result ↔ (layers_of (meant_of value.now) ≤ most) }
+{
+    if most == 0 {
+        return false;
+    }
+    match value {
+        Value::Negative(value) => has_layers(value, most - 1),
+        Value::Sum(left, right) | Value::Difference(left, right) | Value::Product(left, right) =>
+            has_layers(left, most - 1) && has_layers(right, most - 1),
+        _ => true,
+    }
 }

@@ -17,23 +17,33 @@ fn names(alloc: Global, line: &[u8]) -> Result<Vec<Vec<u8>>, AllocError> {
     Ok(names)
 }
 
-/// The first AIR of a batch.
-fn first_air(batch: &BatchText) -> Option<&AirText> {
+/// The AIR of a batch after so many others.
+fn air_after(batch: &BatchText, others: usize) -> Option<&AirText> {
+    let mut before: usize = 0;
     for section in &batch.sections {
         if let SectionText::Air(air) = section {
-            return Some(air);
+            if before == others {
+                return Some(air);
+            }
+            before = before.wrapping_add(1);
         }
     }
     None
 }
 
-/// The lookups of the first AIR of a text over the columns of this header, and the fixed column
-/// `f`. `None` where the text is not read.
-fn said(alloc: Global, text: &[u8], header: &[u8]) -> Option<Result<NamedAir, NameFault>> {
+/// The lookups of an AIR of a text over the columns of this header, and the fixed column `f`, in
+/// room for so many nodes. `None` where the text is not read.
+fn said_in(
+    alloc: Global,
+    text: &[u8],
+    header: &[u8],
+    others: usize,
+    room: usize,
+) -> Option<Result<NamedAir, NameFault>> {
     let batch = read_batch(alloc, text).ok()?;
     let columns = names(alloc, header).ok()?;
     let fixed = names(alloc, b"f").ok()?;
-    let air = first_air(&batch)?;
+    let air = air_after(&batch, others)?;
     Some(lookups_of(
         alloc,
         text,
@@ -41,7 +51,13 @@ fn said(alloc: Global, text: &[u8], header: &[u8]) -> Option<Result<NamedAir, Na
         air,
         columns.as_slice(),
         fixed.as_slice(),
+        room,
     ))
+}
+
+/// Those of the first AIR, in much room.
+fn said(alloc: Global, text: &[u8], header: &[u8]) -> Option<Result<NamedAir, NameFault>> {
+    said_in(alloc, text, header, 0, 65_536)
 }
 
 /// Whether a lookup has this bus, and as many messages.
@@ -231,9 +247,107 @@ fn buses(rt: HostRuntime) {
     let Ok(batch) = read_batch(alloc, twice) else {
         return holds(&rt, "it is read", false);
     };
-    let wanted = NameFault::Refused(NameRefusal {
+    let wanted = NameRefusal {
         at: 22,
         why: NameWhy::RepeatedBus,
-    });
+    };
     holds(&rt, "twice", check_buses(twice, &batch) == Err(wanted));
+    let text = b"bus b(x)\nbus b(y, z)\nair t {\n query b(a)\n}";
+    let first_counts = said(alloc, text, b"a").is_some_and(|air| air.is_ok());
+    holds(&rt, "the first declaration counts", first_counts);
+    let text = b"bus b(x)\nbus b(y, z)\nair t {\n query b(a, a)\n}";
+    holds(
+        &rt,
+        "the second does not",
+        refused(alloc, text, 4, 8, NameWhy::TupleWidth),
+    );
+}
+
+/// Whether an AIR of a text leaves this of the room.
+fn leaves(alloc: Global, text: &[u8], others: usize, room: usize, wanted: usize) -> bool {
+    match said_in(alloc, text, b"a", others, room) {
+        Some(Ok(air)) => air.room == wanted,
+        _ => false,
+    }
+}
+
+/// Whether an AIR of a text is refused at this byte, in room for so many nodes.
+fn refused_in(
+    alloc: Global,
+    text: &[u8],
+    others: usize,
+    room: usize,
+    at: usize,
+    why: NameWhy,
+) -> bool {
+    match said_in(alloc, text, b"a", others, room) {
+        Some(Err(fault)) => fault == NameFault::Refused(NameRefusal { at, why }),
+        _ => false,
+    }
+}
+
+#[test]
+fn rooms(rt: HostRuntime) {
+    let alloc = rt.alloc();
+    // three nodes in the first AIR, and in the second 3 for the definition, 3, 3 and 4
+    let text = br#"air t {
+query local(a + 1)
+}
+air u {
+let s = a * a
+exclusive {
+when s query local(s, -s)
+}
+}"#;
+    holds(&rt, "the first", leaves(alloc, text, 0, 16, 13));
+    holds(&rt, "the second", leaves(alloc, text, 1, 13, 0));
+    holds(&rt, "too little", leaves(alloc, text, 0, 15, 12));
+    holds(
+        &rt,
+        "none for the last name",
+        refused_in(alloc, text, 1, 12, 86, NameWhy::LargeExpression),
+    );
+    holds(
+        &rt,
+        "none for the flag",
+        refused_in(alloc, text, 1, 5, 68, NameWhy::LargeExpression),
+    );
+}
+
+/// Two definitions, `b` of `a` under so many signs, and `c` of `b` under so many.
+fn signed_twice(alloc: Global, first: usize, second: usize) -> Result<Vec<u8>, AllocError> {
+    let mut text = Vec::from_slice(alloc, b"air t {\nlet b = ")?;
+    for _ in 0..first {
+        text.push(b'-')?;
+    }
+    text.extend_from_slice(b"a\nlet c = ")?;
+    for _ in 0..second {
+        text.push(b'-')?;
+    }
+    text.extend_from_slice(b"b\nquery local(c)\n}")?;
+    Ok(text)
+}
+
+#[test]
+fn layers(rt: HostRuntime) {
+    let alloc = rt.alloc();
+    let Ok(most) = signed_twice(alloc, 511, 512) else {
+        return holds(&rt, "memory", false);
+    };
+    // b has 512 nodes and layers, c 1,024, of which there are two
+    holds(&rt, "1,024 layers", leaves(alloc, &most, 0, 2561, 1));
+    let Ok(more) = signed_twice(alloc, 511, 513) else {
+        return holds(&rt, "memory", false);
+    };
+    // 8 bytes, 8 and 513, 8 and 513 stand before the last name
+    holds(
+        &rt,
+        "1,025 layers",
+        refused_in(alloc, &more, 0, 1537, 1050, NameWhy::DeepExpression),
+    );
+    holds(
+        &rt,
+        "1,024 nodes for them",
+        refused_in(alloc, &more, 0, 1536, 1050, NameWhy::LargeExpression),
+    );
 }

@@ -71,26 +71,38 @@ fn scope<'a>(text: &'a [u8], tables: &'a Tables) -> Scope<'a> {
     }
 }
 
-/// The number of an expression, or the refusal of a name in it. `None` where it is not read.
-fn meaning(alloc: Global, text: &[u8]) -> Option<Result<u64, NameFault>> {
+/// How many nodes an expression may have in most of these tests.
+const ROOM: usize = 65_536;
+
+/// The number of an expression and the room that it leaves, or the refusal of a name in it. `None`
+/// where it is not read.
+fn meaning(alloc: Global, text: &[u8], room: usize) -> Option<Result<(u64, usize), NameFault>> {
     let tables = some_tables(alloc).ok()?;
     let found = tokens(alloc, text).ok()?;
     let (tree, _) = read_formula(alloc, &found).ok()?;
-    match value_of(alloc, &scope(text, &tables), &tree) {
-        Ok(value) => Some(Ok(number(&value))),
+    match value_of(alloc, &scope(text, &tables), &tree, room) {
+        Ok((value, left)) => Some(Ok((number(&value), left))),
         Err(fault) => Some(Err(fault)),
     }
 }
 
 fn means(alloc: Global, text: &[u8], wanted: u64) -> bool {
-    match meaning(alloc, text) {
-        Some(Ok(found)) => found == wanted,
+    match meaning(alloc, text, ROOM) {
+        Some(Ok((found, _))) => found == wanted,
+        _ => false,
+    }
+}
+
+/// Whether an expression leaves this of some room.
+fn leaves(alloc: Global, text: &[u8], room: usize, wanted: usize) -> bool {
+    match meaning(alloc, text, room) {
+        Some(Ok((_, left))) => left == wanted,
         _ => false,
     }
 }
 
 fn unknown(alloc: Global, text: &[u8], at: usize, why: NameWhy) -> bool {
-    match meaning(alloc, text) {
+    match meaning(alloc, text, ROOM) {
         Some(Err(fault)) => fault == NameFault::Refused(NameRefusal { at, why }),
         _ => false,
     }
@@ -144,11 +156,14 @@ fn sizes(rt: HostRuntime) {
     let sum =
         b"--((a^64)^64+(a^64)^64+(a^64)^64+(a^64)^64+(a^64)^64+(a^64)^64+(a^64)^64+(a^64)^64)";
     holds(&rt, "65,536 nodes", means(alloc, &sum[1..], 0));
+    holds(&rt, "no room left", leaves(alloc, &sum[1..], ROOM, 0));
     holds(
         &rt,
         "one more",
         unknown(alloc, sum, 74, NameWhy::LargeExpression),
     );
+    holds(&rt, "a cell", leaves(alloc, b"next(a)", 1, 0));
+    holds(&rt, "a cube", leaves(alloc, b"-x^3 + 1", 20, 12));
 }
 
 /// The first message of a text.
@@ -162,17 +177,20 @@ fn first_message(section: &SectionText) -> Option<&MessageText> {
     }
 }
 
+/// What a message sends, and the room that it leaves.
+type Sent = (NamedMessage, usize);
+
 /// What the first message of a text sends, or why not. `None` where the text is not read.
-fn sent(alloc: Global, text: &[u8]) -> Option<Result<NamedMessage, NameFault>> {
+fn sent(alloc: Global, text: &[u8], room: usize) -> Option<Result<Sent, NameFault>> {
     let tables = some_tables(alloc).ok()?;
     let batch = read_batch(alloc, text).ok()?;
     let message = first_message(batch.sections.first()?)?;
-    Some(named_message(alloc, &scope(text, &tables), message))
+    Some(named_message(alloc, &scope(text, &tables), message, room))
 }
 
 /// Whether the first message of a text has these values in its tuple, this count and this weight.
 fn sends(alloc: Global, text: &[u8], tuple: &[u64], count: u64, weight: u64) -> bool {
-    let Some(Ok(message)) = sent(alloc, text) else {
+    let Some(Ok((message, _))) = sent(alloc, text, ROOM) else {
         return false;
     };
     let mut same = message.tuple.len() == tuple.len();
@@ -203,21 +221,47 @@ fn messages(rt: HostRuntime) {
         "a provision",
         sends(alloc, b"air t {\nprovide b(1) times a\n}", &[1], minus, 0),
     );
-    let refused = sent(alloc, b"air t {\n  query b(1) times a\n}");
-    let fault = NameFault::Refused(NameRefusal {
-        at: 10,
-        why: NameWhy::NoWeight,
-    });
+    let text = b"air t {\n  query b(1) times a\n}";
     holds(
         &rt,
         "no weight",
-        refused.is_some_and(|answer| is_refused(answer, fault)),
+        is_refused(alloc, text, ROOM, 10, NameWhy::NoWeight),
     );
 }
 
-fn is_refused(answer: Result<NamedMessage, NameFault>, wanted: NameFault) -> bool {
-    match answer {
-        Ok(_) => false,
-        Err(fault) => fault == wanted,
+/// Whether the first message of a text is refused at this byte, in room for so many nodes.
+fn is_refused(alloc: Global, text: &[u8], room: usize, at: usize, why: NameWhy) -> bool {
+    match sent(alloc, text, room) {
+        Some(Err(fault)) => fault == NameFault::Refused(NameRefusal { at, why }),
+        _ => false,
     }
+}
+
+/// Whether the first message of a text leaves this of some room.
+fn message_leaves(alloc: Global, text: &[u8], room: usize, wanted: usize) -> bool {
+    match sent(alloc, text, room) {
+        Some(Ok((_, left))) => left == wanted,
+        _ => false,
+    }
+}
+
+#[test]
+fn rooms(rt: HostRuntime) {
+    let alloc = rt.alloc();
+    // three nodes, three and one; the sign of the count is not counted
+    let text = b"air t {\nreceive b(a + 1, 2 * a) times a at most 3\n}";
+    holds(&rt, "all of it", message_leaves(alloc, text, 7, 0));
+    holds(&rt, "some of it", message_leaves(alloc, text, 9, 2));
+    holds(
+        &rt,
+        "none for the count",
+        is_refused(alloc, text, 6, 38, NameWhy::LargeExpression),
+    );
+    holds(
+        &rt,
+        "none for the second value",
+        is_refused(alloc, text, 5, 29, NameWhy::LargeExpression),
+    );
+    let once = b"air t {\nprovide b(a)\n}";
+    holds(&rt, "once", message_leaves(alloc, once, 1, 0));
 }

@@ -8,4 +8,4 @@ use Rattle.lookup_names.proofs.air.parts_on.Given as goal
 
 -- the messages so far and those of the parts that are left are those of all
 abbrev pub invariant-loop-part : goal.invariant-loop-part
-invariant-loop-part l = let sections = map section_of l.sections in with_parts (map part_of l.named.items) (parts_on sections (names_of l.scope) l.bus (map said_part (drop l.part-index l.parts))) ≡ parts_on sections (names_of l.scope) l.bus (map said_part l.parts)
+invariant-loop-part l = let sections = map section_of l.sections in with_parts (map part_of l.named.items) (parts_on sections (names_of l.scope) l.bus (map said_part (drop l.part-index l.parts)) l.left) ≡ parts_on sections (names_of l.scope) l.bus (map said_part l.parts) l.initial.left
