@@ -55,6 +55,10 @@ with_definition names d = record { text = names.text; columns = names.columns; p
 abbrev pub new_name : Names → Span → Result (Unit {0}) NameRefusal
 new_name names s = if is_some (definition (bytes_in s names.text) names.defined) then refused RepeatedDefinition s.start else Ok tt
 
+-- a definition of a name that has none yet
+abbrev pub defined_by : Names → Span → Formula → ℕ → Result (InRoom (List ℕ × Meant)) NameRefusal
+defined_by names s f room = new_name names s >>= λ _. meaning names f room >>= λ x. Ok ((bytes_in s names.text, x.0), x.1)
+
 -- what a message sends, on a bus that takes it
 abbrev pub message_on : List Section → Names → Message → ℕ → Result (InRoom Sent) NameRefusal
 message_on sections names m room = bus_checked names.text (buses_of sections) m.bus (length m.tuple) >>= λ _. sent names m room
@@ -112,7 +116,7 @@ addition_at sections names publics at (items.lookups s) room = refused LookupsFi
 addition_at sections names publics at (items.height n) room = Ok (nothing, room)
 addition_at sections names publics at (items.columns ss) room = Ok (nothing, room)
 addition_at sections names publics at (items.public s n) room = new_name names s >>= λ _. Ok (publishes (bytes_in s names.text, values.public publics) n, room)
-addition_at sections names publics at (items.letting s f) room = new_name names s >>= λ _. meaning names f room >>= λ x. Ok (defines (bytes_in s names.text, x.0), x.1)
+addition_at sections names publics at (items.letting s f) room = defined_by names s f room >>= λ d. Ok (defines d.0, d.1)
 addition_at sections names publics at (items.message m) room = column_alone sections names m room >>= λ c. Ok (sends c.0, c.1)
 addition_at sections names publics at (items.together ps) room = column_together sections names at false ps room >>= λ c. Ok (sends c.0, c.1)
 addition_at sections names publics at (items.exclusive ps) room = column_together sections names at true ps room >>= λ c. Ok (sends c.0, c.1)

@@ -5,14 +5,14 @@ ghost use Rattle.lookup_text.specs.Formulas.{formula_of};
 ghost use Rattle.lookup_text.specs.Items.{part_of as said_part, placed_of};
 ghost use Rattle.lookup_text.specs.Messages.{message_of as said_by};
 ghost use Rattle.lookup_names.specs.Faults.{Gives};
-ghost use Rattle.lookup_names.specs.Lookups.{addition, addition_of, bus_kept, column_alone, column_of, column_together, flag_meant, message_on, names_for, new_name, part_of, part_on, parts_on, said_by_items, said_of};
+ghost use Rattle.lookup_names.specs.Lookups.{addition, addition_of, bus_kept, column_alone, column_of, column_together, defined_by, flag_meant, message_on, names_for, new_name, part_of, part_on, parts_on, said_by_items, said_of};
 ghost use Rattle.lookup_names.specs.Messages.{sent_of};
 ghost use Rattle.lookup_names.specs.Room.{in_room};
 ghost use Rattle.lookup_names.specs.Scopes.{bytes_in, defined_of, names_of};
 ghost use Rattle.lookup_names.specs.Values.{meant_of};
 
 use crate::bus::{check_bus, same_bus};
-use crate::fault::{NameFault, NameRefusal, NameWhy};
+use crate::fault::{NameFault, NameRefusal, NameWhy, refused};
 use crate::message::{NamedMessage, named_message};
 use crate::scope::{Defined, Scope, bytes_of, defined_value, value_of};
 use crate::value::Value;
@@ -84,10 +84,8 @@ pub fn lookups_of(
         (names_for text.now columns.now preprocessed.now) 0
         (map placed_of air.now.items.items) room) }
 {
-    let mut defined = Vec::new(alloc);
-    let mut lookups = Vec::new(alloc);
-    let mut public_values = Vec::new(alloc);
-    let mut left = room;
+    let (mut defined, mut lookups) = (Vec::new(alloc), Vec::new(alloc));
+    let (mut publics, mut left) = (Vec::new(alloc), room);
     for item in &air.items {
         let scope = Scope {
             text,
@@ -95,22 +93,21 @@ pub fn lookups_of(
             preprocessed,
             defined: defined.as_slice(),
         };
-        let publics = public_values.len();
-        let (added, after) = added_by(alloc, &scope, &batch.sections, publics, item, left)?;
+        let (added, after) = added_by(alloc, &scope, &batch.sections, publics.len(), item, left)?;
         left = after;
         match added {
             Added::Nothing => {}
             Added::Definition(definition) => defined.push(definition)?,
             Added::Public(definition, value) => {
                 defined.push(definition)?;
-                public_values.push(value)?;
+                publics.push(value)?;
             }
             Added::Lookup(lookup) => lookups.push(lookup)?,
         }
     }
     Ok(NamedAir {
         lookups,
-        public_values,
+        public_values: publics,
         room: left,
     })
 }
@@ -133,19 +130,15 @@ fn added_by(
         | ItemText::Preprocessed(_)
         | ItemText::Height(_)
         | ItemText::Columns(_) => Ok((Added::Nothing, room)),
-        ItemText::Lookups(_) => Err(NameFault::Refused(NameRefusal {
-            at: item.at,
-            why: NameWhy::LookupsFile,
-        })),
+        ItemText::Lookups(_) => Err(refused(item.at, NameWhy::LookupsFile)),
         ItemText::Public(name, number) => {
             check_new(scope, *name)?;
             let definition = define(alloc, scope, *name, Value::Public(publics))?;
             Ok((Added::Public(definition, *number), room))
         }
         ItemText::Let(name, tree) => {
-            check_new(scope, *name)?;
-            let (value, left) = value_of(alloc, scope, tree, room)?;
-            Ok((Added::Definition(define(alloc, scope, *name, value)?), left))
+            let (definition, left) = defined_by(alloc, scope, *name, tree, room)?;
+            Ok((Added::Definition(definition), left))
         }
         ItemText::Message(message) => {
             let (lookup, left) = lookup_alone(alloc, scope, sections, message, room)?;
@@ -160,6 +153,22 @@ fn added_by(
             Ok((Added::Lookup(lookup), left))
         }
     }
+}
+
+/// A definition of a name that has none yet, and the room that it leaves.
+fn defined_by(
+    alloc: Global,
+    scope: &Scope<'_>,
+    name: Span,
+    tree: &Tree,
+    room: usize,
+) -> Result<(Defined, usize), NameFault>
+    ensures { Gives (in_room defined_of) result
+        (defined_by (names_of scope.now) name (formula_of tree.now) room) }
+{
+    check_new(scope, name)?;
+    let (value, left) = value_of(alloc, scope, tree, room)?;
+    Ok((define(alloc, scope, name, value)?, left))
 }
 
 /// Whether a name is not defined before.
@@ -241,10 +250,7 @@ fn group_of(
         (names_of scope.now) at exclusive (map said_part parts.now) room) }
 {
     let Some(first) = parts.first() else {
-        return Err(NameFault::Refused(NameRefusal {
-            at,
-            why: NameWhy::EmptyGroup,
-        }));
+        return Err(refused(at, NameWhy::EmptyGroup));
     };
     let bus = first.message.bus;
     let (parts, left) = parts_on(alloc, scope, sections, bus, parts, room)?;

@@ -51,6 +51,12 @@ pub enum NameFault {
     Refused(NameRefusal),
 }
 
+pub(crate) fn refused(at: usize, why: NameWhy) -> NameFault
+    ensures { result ≡ NameFault.Refused (record { at = at; why = why }) }
+{
+    NameFault::Refused(NameRefusal { at, why })
+}
+
 impl From<NameRefusal> for NameFault {
     ghost from_gives = { λ r e. e ≡ Refused r };
 

@@ -7,8 +7,11 @@ ghost use Rattle.lookup_names.specs.Room.{in_room};
 ghost use Rattle.lookup_names.specs.Scopes.{bytes_in, cell_of, defined_of, definition, fixed_name, front_of, meaning, meaning_in, named_in, names_of, next_named, place_of, placed, selector_of};
 ghost use Rattle.lookup_names.specs.Values.{meant_of, powers};
 
-use crate::fault::{NameFault, NameRefusal, NameWhy};
-use crate::value::{Value, copy_of, has_layers, power_of, room_after, room_after_power};
+use crate::fault::{NameFault, NameWhy, refused};
+use crate::value::{
+    Value, copy_of, difference_of, has_layers, power_of, product_of, room_after, room_after_power,
+    sum_of,
+};
 use lookup_text::{Span, Tree};
 use std::alloc::Global;
 
@@ -56,7 +59,7 @@ pub fn value_of(
     if has_layers(&value, MAX_LAYERS) {
         Ok((value, left))
     } else {
-        Err(refusal(front_of(tree), NameWhy::DeepExpression))
+        Err(refused(front_of(tree), NameWhy::DeepExpression))
     }
 }
 
@@ -82,26 +85,17 @@ fn value_in(
         Tree::Sum(left, right) => {
             let (left, room) = value_in(alloc, scope, left, inner)?;
             let (right, room) = value_in(alloc, scope, right, room)?;
-            Ok((
-                Value::Sum(Box::new(alloc, left)?, Box::new(alloc, right)?),
-                room,
-            ))
+            Ok((sum_of(alloc, left, right)?, room))
         }
         Tree::Difference(left, right) => {
             let (left, room) = value_in(alloc, scope, left, inner)?;
             let (right, room) = value_in(alloc, scope, right, room)?;
-            Ok((
-                Value::Difference(Box::new(alloc, left)?, Box::new(alloc, right)?),
-                room,
-            ))
+            Ok((difference_of(alloc, left, right)?, room))
         }
         Tree::Product(left, right) => {
             let (left, room) = value_in(alloc, scope, left, inner)?;
             let (right, room) = value_in(alloc, scope, right, room)?;
-            Ok((
-                Value::Product(Box::new(alloc, left)?, Box::new(alloc, right)?),
-                room,
-            ))
+            Ok((product_of(alloc, left, right)?, room))
         }
         Tree::Power(base, exponent) => {
             let (value, _) = value_in(alloc, scope, base, room)?;
@@ -128,7 +122,7 @@ fn within(value: Value, at: usize, room: usize) -> Result<(Value, usize), NameFa
 {
     match room_after(&value, room) {
         Some(left) => Ok((value, left)),
-        None => Err(refusal(at, NameWhy::LargeExpression)),
+        None => Err(refused(at, NameWhy::LargeExpression)),
     }
 }
 
@@ -143,7 +137,7 @@ fn copy_within(
 {
     match room_after(value, room) {
         Some(left) => Ok((copy_of(alloc, value)?, left)),
-        None => Err(refusal(at, NameWhy::LargeExpression)),
+        None => Err(refused(at, NameWhy::LargeExpression)),
     }
 }
 
@@ -160,14 +154,8 @@ fn power_within(
 {
     match room_after_power(base, exponent, room) {
         Some(left) => Ok((power_of(alloc, base, exponent)?, left)),
-        None => Err(refusal(at, NameWhy::LargeExpression)),
+        None => Err(refused(at, NameWhy::LargeExpression)),
     }
-}
-
-fn refusal(at: usize, why: NameWhy) -> NameFault
-    ensures { result ≡ NameFault.Refused (record { at = at; why = why }) }
-{
-    NameFault::Refused(NameRefusal { at, why })
 }
 
 /// The value that a name stands for, and how much room it leaves.
@@ -189,7 +177,7 @@ fn named_value(
     }
     match cell(scope, name, 0) {
         Some(value) => within(value, span.start, room),
-        None => Err(refusal(span.start, NameWhy::UnknownName)),
+        None => Err(refused(span.start, NameWhy::UnknownName)),
     }
 }
 
@@ -200,7 +188,7 @@ fn next_value(scope: &Scope<'_>, span: Span) -> Result<Value, NameFault>
 {
     match cell(scope, bytes_of(scope.text, span), 1) {
         Some(value) => Ok(value),
-        None => Err(refusal(span.start, NameWhy::UnknownColumn)),
+        None => Err(refused(span.start, NameWhy::UnknownColumn)),
     }
 }
 

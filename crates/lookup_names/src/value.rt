@@ -1,6 +1,6 @@
 //! Values over columns by their numbers.
 ghost use Rattle.std.specs.Prelude.{◌≡◌, ◌-◌, ◌+◌, ◌<◌, ◌≤◌, ◌↔◌, IfOk, IsTrue, MatchOption};
-ghost use Rattle.lookup_names.specs.Values.{layers_of, meant_of, powers, size_of};
+ghost use Rattle.lookup_names.specs.Values.{difference, layers_of, meant_of, powers, product, size_of, sum};
 
 use std::alloc::{AllocError, Global};
 
@@ -24,6 +24,24 @@ pub enum Value {
     Sum(Box<Value>, Box<Value>),
     Difference(Box<Value>, Box<Value>),
     Product(Box<Value>, Box<Value>),
+}
+
+pub(crate) fn sum_of(alloc: Global, left: Value, right: Value) -> Result<Value, AllocError>
+    ensures { IfOk result (λ r. meant_of r ≡ sum (meant_of left) (meant_of right)) }
+{
+    Ok(Value::Sum(Box::new(alloc, left)?, Box::new(alloc, right)?))
+}
+
+pub(crate) fn difference_of(alloc: Global, left: Value, right: Value) -> Result<Value, AllocError>
+    ensures { IfOk result (λ r. meant_of r ≡ difference (meant_of left) (meant_of right)) }
+{
+    Ok(Value::Difference(Box::new(alloc, left)?, Box::new(alloc, right)?))
+}
+
+pub(crate) fn product_of(alloc: Global, left: Value, right: Value) -> Result<Value, AllocError>
+    ensures { IfOk result (λ r. meant_of r ≡ product (meant_of left) (meant_of right)) }
+{
+    Ok(Value::Product(Box::new(alloc, left)?, Box::new(alloc, right)?))
 }
 
 /// A deep copy. Fails only when out of memory.
@@ -50,17 +68,17 @@ pub fn copy_of(alloc: Global, value: &Value) -> Result<Value, AllocError>
         Value::Sum(left, right) => {
             let left = copy_of(alloc, left)?;
             let right = copy_of(alloc, right)?;
-            Ok(Value::Sum(Box::new(alloc, left)?, Box::new(alloc, right)?))
+            sum_of(alloc, left, right)
         }
         Value::Difference(left, right) => {
             let left = copy_of(alloc, left)?;
             let right = copy_of(alloc, right)?;
-            Ok(Value::Difference(Box::new(alloc, left)?, Box::new(alloc, right)?))
+            difference_of(alloc, left, right)
         }
         Value::Product(left, right) => {
             let left = copy_of(alloc, left)?;
             let right = copy_of(alloc, right)?;
-            Ok(Value::Product(Box::new(alloc, left)?, Box::new(alloc, right)?))
+            product_of(alloc, left, right)
         }
     }
 }
@@ -72,7 +90,7 @@ pub(crate) fn power_of(alloc: Global, base: &Value, exponent: u64) -> Result<Val
     let mut product = copy_of(alloc, base)?;
     for _ in 0..exponent.saturating_sub(1) {
         let factor = copy_of(alloc, base)?;
-        product = Value::Product(Box::new(alloc, product)?, Box::new(alloc, factor)?);
+        product = product_of(alloc, product, factor)?;
     }
     Ok(product)
 }

@@ -11,6 +11,6 @@ abbrev pub invariant-loop-item : goal.invariant-loop-item
 invariant-loop-item l =
     let sections = map section_of l.batch.sections.items in
     let names = names_for l.text l.columns l.preprocessed in
-    with_said (map column_of l.lookups.items) l.public_values.items
-    (said_by_items sections (names_with names (map defined_of l.defined.items)) (length l.public_values.items) (map placed_of (drop l.item-index l.air.items.items)) l.left)
+    with_said (map column_of l.lookups.items) l.publics.items
+    (said_by_items sections (names_with names (map defined_of l.defined.items)) (length l.publics.items) (map placed_of (drop l.item-index l.air.items.items)) l.left)
     ≡ said_by_items sections names 0 (map placed_of l.air.items.items) l.initial.left
