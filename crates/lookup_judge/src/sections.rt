@@ -3,11 +3,11 @@ ghost use Rattle.std.specs.Prelude.{◌≡◌, ◌++◌, ℕ, List, OnOk};
 ghost use Rattle.lookup_judge.specs.Runs.{verdict_line};
 
 use crate::bits::push_bits;
+use crate::fields::TableField;
 use crate::page::{Page, head, number_cell, numbers_cell, shown_cell, word_cell};
 use crate::report::{AirReport, PlanReport, Report};
 use crate::unbalanced::push_unbalanced;
 use crate::words::{air_at, bus_named};
-use field::{MontyField31, MontyParameters};
 use lookup::debug_util::{BusGroup, GroupName};
 use lookup_names::bytes_of;
 use lookup_text::BatchText;
@@ -28,10 +28,10 @@ pub(crate) struct Told<'a> {
 }
 
 /// Appends a report of a batch over its traces.
-pub(crate) fn push_report<const P: u32, K: MontyParameters<P>>(
+pub(crate) fn push_report<F: TableField>(
     page: &mut Page,
     told: Told<'_>,
-    report: &Report<MontyField31<P, K>>,
+    report: &Report<F>,
 ) -> Result<(), AllocError>
     ensures { OnOk result ((front : List ℕ)
         × (page.new.bytes.items ≡ front ++ verdict_line report.now.balanced)) }

@@ -3,13 +3,13 @@ ghost use Rattle.std.specs.Prelude.{◌≡◌, ◌⊎◌, ℕ, List, IfSome, Mat
 ghost use Rattle.std.specs.Io.KnownBytes.{Appends};
 ghost use Rattle.std.specs.Process.{exit_status};
 ghost use Rattle.lookup_program.specs.Program.{Answers, AnswersOver, Ends, HasMismatch, IsBadChallenge, WritesInOrder};
-ghost use Rattle.lookup_program.specs.internal.Fields.{run_fields};
+ghost use Rattle.field_words.specs.Fields.{run_fields};
 
-use crate::challenge::Challenge;
 use crate::error::RunError;
 use crate::machine::Machine;
 use crate::report::{Report, report_of};
 use field::{BabyBear, BabyBear4, F7, Field, KoalaBear, KoalaBear4};
+use field_words::Challenge;
 use goldilocks::{Goldilocks, Goldilocks2};
 use std::alloc::Global;
 use std::io;

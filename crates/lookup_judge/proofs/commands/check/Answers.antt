@@ -1,5 +1,5 @@
 use Rattle.std.proofs.Common.{◌≡◌, ◌∙◌, ap, arith, map, refl, subst}
-use Rattle.field.specs.Residue.{residue_of}
+use Rattle.field.specs.Ring.{of_nat}
 use Rattle.lookup_files.specs.Files.{named_of}
 use Rattle.lookup_files.specs.Tables.{all_tables, tables_of}
 use Rattle.lookup_text.specs.Batches.{section_of}
@@ -19,7 +19,7 @@ returns-in-Ok g c =
       tables = map tables_of c.in_ok-tables.tables.items;
       tables_are = ap (λ m. all_tables text (map named_of c.args.given.files.now) m sections) modulus ∙ c.in_ok-tables.ensures;
       traced = traced;
-      said = subst (λ ts. AreSaid (residue_of g.row.P g.K.MontyParameters.positive) text sections 1048576 (airs_of sections) (map tables_of ts) traced) c.deref.ensures.value c.in-Ok.ensures.2;
+      said = subst (λ ts. AreSaid (of_nat g.F.PrimeCharacteristicRing.ring) text sections 1048576 (airs_of sections) (map tables_of ts) traced) c.deref.ensures.value c.in-Ok.ensures.2;
       limit = c.max-most.result;
       report = c.in-Ok.report;
       found = c.in-Ok.ensures.3;

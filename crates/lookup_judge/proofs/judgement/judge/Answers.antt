@@ -2,7 +2,6 @@ use Rattle.std.proofs.Common.{◌∙◌, ap, map, sym}
 use Rattle.std.proofs.lemmas.Simd.{map-map}
 use Rattle.batch.specs.Runs.{plan_of}
 use Rattle.batch.specs.Traces.{view_of}
-use Rattle.field.specs.Residue.{Residue}
 use Rattle.lookup_debug.specs.BusTable.{row_of}
 use Rattle.lookup_debug.specs.Contributions.{Traced, traced_of}
 use Rattle.lookup_debug.specs.Signs.{is_negative}
@@ -25,7 +24,7 @@ returns g c =
     let sizes = ap (map size_of) c.deref-8.ensures.value ∙ (c.in_ok-sizes.ensures ∙ (ap (map (λ a. sized_of (over_traced a))) c.deref.ensures.value ∙ sym (map-map sized_of over_traced airs))) in
     let traces = ap (map view_of) c.deref-4.ensures.value ∙ (c.in_ok-traces.ensures ∙ (ap (map (λ a. (over_traced a).traces)) c.deref-3.ensures.value ∙ sym (map-map (λ (t : Traced _). t.traces) over_traced airs))) in
     let instances = ap (map traced_of) c.deref-6.ensures.value ∙ (c.in_ok-instances.ensures ∙ ap (map over_traced) c.deref-5.ensures.value) in
-    let found = balanced_over _ _ (map traced_of c.deref-6.result.now) traced instances c.in_ok-groups.groups.items c.deref-7.result.now c.all_balance-balanced.result c.args.limit (is_negative g.row.P (λ (x : Residue g.row.P). x.value)) (map row_of c.in_ok-groups.groups.items) c.deref-7.ensures.value c.all_balance-balanced.ensures c.in_ok-groups.ensures.balance c.in_ok-groups.ensures.rows in (
+    let found = balanced_over _ _ (map traced_of c.deref-6.result.now) traced instances c.in_ok-groups.groups.items c.deref-7.result.now c.all_balance-balanced.result c.args.limit (is_negative g.F.PrimeCharacteristicRing.CHARACTERISTIC g.F.SignedField.number) (map row_of c.in_ok-groups.groups.items) c.deref-7.ensures.value c.all_balance-balanced.ensures c.in_ok-groups.ensures.balance c.in_ok-groups.ensures.rows in (
       sym c.check_buses.ensures ∙ c.in_ok-check_buses.was,
       traced,
       c.in_ok-airs.ensures.said,
