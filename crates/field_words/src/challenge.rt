@@ -23,6 +23,19 @@ pub trait Challenge<F: Field>: ExtensionField<F> {
             (λ x. written word.now x) };
 }
 
+/// Two fields whose elements are written as words, in one word for contracts:
+/// `⟦<EF as Written<F>>⟧.fields` is what a run over the two works with.
+///
+/// Every pair is one, so bounds say `EF: Challenge<F>`.
+pub trait Written<F: Field>: Challenge<F> {
+    ghost fields: { Fields F Self };
+}
+
+impl<F: Field, EF: Challenge<F>> Written<F> for EF {
+    ghost fields = { run_fields F.ring F.eq F.CHARACTERISTIC EF.ring EF.eq EF.embed EF.inverse
+        EF.written EF.text F.text };
+}
+
 /// A number below 7.
 impl Challenge<F7> for F7 {
     ghost written = { λ word x. WritesResidue word x };

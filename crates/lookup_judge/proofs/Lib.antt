@@ -1,4 +1,5 @@
 pub mod AirLaws
+pub mod BitLaws
 pub mod FittingLaws
 pub mod JudgeLaws
 pub mod SizeLaws

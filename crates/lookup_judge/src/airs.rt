@@ -12,9 +12,10 @@ ghost use Rattle.lookup_text.specs.Tables.{table_of};
 
 use crate::fault::JudgeFault;
 use field::Field;
+use field_words::elements_of;
 use lookup::Lookups;
 use lookup::debug_util::fit_fault;
-use lookup_elements::{elements_of, has_whole_rows, lookups_over, matrix_of};
+use lookup_elements::{has_whole_rows, lookups_over, matrix_of};
 use lookup_files::{AirShape, AirTables};
 use lookup_names::{NamedAir, lookups_of};
 use lookup_text::{AirText, BatchText, SectionText, Table};

@@ -1,6 +1,6 @@
 //! The fields of the program.
 ghost use Rattle.std.specs.Prelude.{◌≡◌};
-ghost use Rattle.lookup_judge.specs.internal.Challenges.{challenges_of};
+ghost use Rattle.lookup_judge.specs.Bits.{challenges_of};
 
 use field::{F7, MontyField31, MontyParameters, PrimeCharacteristicRing};
 use goldilocks::Goldilocks;

@@ -10,16 +10,16 @@ ghost use Rattle.lookup_judge.specs.internal.Airs.{over_traced, size_of};
 ghost use Rattle.lookup_names.specs.Buses.{distinct_buses};
 ghost use Rattle.lookup_text.specs.Batches.{section_of};
 
-use crate::airs::{AirOver, airs_over};
+use crate::airs::AirOver;
 use crate::fault::JudgeFault;
-use crate::plan::{plan_over, report_plan};
+use crate::opened::{PlannedAirs, planned_airs};
+use crate::plan::report_plan;
 use crate::report::Report;
 use crate::sizes::SizedAir;
 use batch::BatchTrace;
 use field::{ExtensionField, Field, Over};
 use lookup::debug_util::{BusGroup, LookupDebugInstance, SignedField, bus_table};
 use lookup_files::AirTables;
-use lookup_names::check_buses;
 use lookup_text::BatchText;
 use std::alloc::{AllocError, Global};
 
@@ -49,18 +49,14 @@ pub fn judge<F: SignedField, EF: ExtensionField<F>>(
         (map tables_of tables.now) traced
         × IsFound E F.CHARACTERISTIC limit max_degree F.number traced report) }
 {
-    check_buses(text, batch)?;
-    let airs = airs_over(alloc, text, batch, tables)?;
-    let sizes = sizes_of(alloc, &airs)?;
-    let plan = plan_over(alloc, &sizes)?;
+    let PlannedAirs { airs, plan } = planned_airs(alloc, text, batch, tables)?;
     let traces = traces_of(alloc, &airs)?;
     let counts = plan.soundness_count::<EF>(alloc, &traces)?;
     let instances = instances_of(alloc, &airs)?;
     let groups = bus_table(alloc, &instances, limit)?;
     let balanced = all_balance(&groups);
-    let plan = report_plan::<F, EF>(
-        alloc, &sizes, &plan, max_degree,
-    )?;
+    let sizes = sizes_of(alloc, &airs)?;
+    let plan = report_plan::<F, EF>(alloc, &sizes, &plan, max_degree)?;
     Ok(Report {
         plan,
         counts,
@@ -70,7 +66,7 @@ pub fn judge<F: SignedField, EF: ExtensionField<F>>(
 }
 
 /// The lookups and the sizes of these AIRs.
-fn sizes_of<'a, F: Field>(
+pub(crate) fn sizes_of<'a, F: Field>(
     alloc: Global,
     airs: &'a [AirOver<F>],
 ) -> Result<Vec<SizedAir<'a, F>>, AllocError>
@@ -88,7 +84,7 @@ fn sizes_of<'a, F: Field>(
 }
 
 /// The traces of these AIRs, as a plan takes them.
-fn traces_of<'a, F: Field>(
+pub(crate) fn traces_of<'a, F: Field>(
     alloc: Global,
     airs: &'a [AirOver<F>],
 ) -> Result<Vec<BatchTrace<'a, F>>, AllocError>

@@ -12,7 +12,7 @@ use batch::BatchError;
 use lookup::LookupError;
 use lookup::debug_util::FitFault;
 use lookup_elements::ElementWhy;
-use lookup_files::{NamedFile, TableRefusal, TableWhy};
+use lookup_files::{TableRefusal, TableWhy, content_of};
 use lookup_names::bytes_of;
 use lookup_text::{BatchText, Fault, Span, place_of};
 use std::alloc::{AllocError, AllocFailed, Global};
@@ -50,6 +50,38 @@ impl RunRefusal {
         page.word(": error: ")?;
         page.word(what)?;
         page.word("\n")?;
+        Ok(RunRefusal::Told(page.bytes))
+    }
+
+    /// A word that writes no challenge, which is the value of an option.
+    pub(crate) fn of_challenge(
+        alloc: Global,
+        field: &str,
+        option: &str,
+        word: &str,
+    ) -> Result<RunRefusal, AllocError> {
+        let mut page = Page::new(alloc);
+        page.word("error: '--")?;
+        page.word(option)?;
+        page.word("' is no element of ")?;
+        page.word(field)?;
+        page.word(": ")?;
+        page.shown(word.as_bytes())?;
+        page.word("\n")?;
+        Ok(RunRefusal::Told(page.bytes))
+    }
+
+    /// A line of a file that is not as a witness is written.
+    pub(crate) fn of_witness(
+        alloc: Global,
+        file: &str,
+        line: usize,
+    ) -> Result<RunRefusal, AllocError> {
+        let mut page = Page::new(alloc);
+        page.shown(file.as_bytes())?;
+        page.word(":")?;
+        page.number(line as u128)?;
+        page.word(": error: this line is not as a witness is written\n")?;
         Ok(RunRefusal::Told(page.bytes))
     }
 
@@ -100,7 +132,9 @@ impl RunRefusal {
         given: Given<'_>,
         refusal: TableRefusal,
     ) -> Result<RunRefusal, AllocError> {
-        let Given { file, text, files } = given;
+        let Given {
+            file, text, files, ..
+        } = given;
         let TableRefusal {
             file: named,
             at,
@@ -122,7 +156,8 @@ impl RunRefusal {
                     None => file,
                 };
                 let fault = Fault { at, why };
-                return RunRefusal::of_text(alloc, name, content_of(files, name), fault);
+                let content = content_of(files, name).unwrap_or(&[]);
+                return RunRefusal::of_text(alloc, name, content, fault);
             }
         };
         RunRefusal::at(alloc, file, text, at, what)
@@ -248,17 +283,4 @@ fn fit_text(fault: FitFault) -> &'static str {
             "the lookups of this AIR do not fit its tables"
         }
     }
-}
-
-/// What the first file with a name holds.
-fn content_of<'a>(files: &'a [NamedFile], name: &[u8]) -> &'a [u8] {
-    for file in files {
-        if file.name.as_slice() == name {
-            return match &file.content {
-                Some(content) => content.as_slice(),
-                None => &[],
-            };
-        }
-    }
-    &[]
 }

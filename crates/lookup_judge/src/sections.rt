@@ -76,10 +76,7 @@ pub(crate) fn push_airs(
     let mut lines = Vec::new(alloc);
     lines.push(head(alloc, &titles)?)?;
     for (index, air) in airs.iter().enumerate() {
-        let name = match air_at(told.batch, index) {
-            Some(said) => bytes_of(told.text, said.name),
-            None => &[],
-        };
+        let name = air_name(told, index);
         let mut cells = Vec::new(alloc);
         cells.push(shown_cell(alloc, name)?)?;
         cells.push(number_cell(alloc, air.rows as u128)?)?;
@@ -92,6 +89,14 @@ pub(crate) fn push_airs(
         lines.push(cells)?;
     }
     page.table(&lines, &[false, true, true, true, true, false, true, false])
+}
+
+/// The name of the AIR with this number.
+pub(crate) fn air_name(told: Told<'_>, air: usize) -> &[u8] {
+    match air_at(told.batch, air) {
+        Some(said) => bytes_of(told.text, said.name),
+        None => &[],
+    }
 }
 
 /// Appends the height bound.
@@ -185,39 +190,38 @@ fn push_soundness<F>(
     told: Told<'_>,
     report: &Report<F>,
 ) -> Result<(), AllocError> {
-    let counts = &report.counts;
     page.word("\nSOUNDNESS\n  these traces: n = ")?;
-    page.grouped(counts.messages)?;
+    page.grouped(report.counts.messages)?;
     page.word(" distinct messages, k = ")?;
-    page.grouped(counts.unbalanced)?;
+    page.grouped(report.counts.unbalanced)?;
     page.word(" of them unbalanced, widest tuple W = ")?;
     page.grouped(report.plan.widest as u128)?;
     page.word("\n")?;
-    if let Some(alphas) = counts.accepting_alphas {
-        let betas = counts.linear_bad_betas();
+    let deceiving = report.for_these_traces();
+    if let Some(alphas) = deceiving.alphas {
         page.word("    all but ")?;
-        page.grouped(betas)?;
+        page.grouped(deceiving.betas)?;
         page.word(" betas leave at most ")?;
         page.grouped(alphas)?;
         page.word(" alphas at which any witness is accepted\n")?;
-        push_bits(page, told.field, betas, alphas)?;
+        push_bits(page, told.field, deceiving)?;
     }
     push_all_traces(page, told, &report.plan)
 }
 
 /// Appends how many challenges may deceive, whatever the traces are.
 fn push_all_traces(page: &mut Page, told: Told<'_>, report: &PlanReport) -> Result<(), AllocError> {
-    let heights = &report.heights;
     page.word("  whatever traces of these heights a prover picks: at most ")?;
-    page.grouped(heights.most_messages)?;
+    page.grouped(report.heights.most_messages)?;
     page.word(" messages\n")?;
-    if let Some(alphas) = heights.accepting_alphas {
+    let deceiving = report.for_all_traces();
+    if let Some(alphas) = deceiving.alphas {
         page.word("    if they do not balance, all but ")?;
-        page.grouped(heights.bad_betas)?;
+        page.grouped(deceiving.betas)?;
         page.word(" betas leave at most ")?;
         page.grouped(alphas)?;
         page.word(" alphas\n")?;
-        push_bits(page, told.field, heights.bad_betas, alphas)?;
+        push_bits(page, told.field, deceiving)?;
     }
     Ok(())
 }

@@ -1,4 +1,5 @@
 //! Lookups as they are understood, in the words of the language.
+use crate::json::push_object;
 use crate::mark::is_name;
 use crate::page::{Page, head, number_cell, shown_cell, word_cell};
 use crate::words::{air_at, public_name};
@@ -68,11 +69,7 @@ pub(crate) fn push_json<F: Serialize>(
         };
         airs.push(ShownAir { name, lookups })?;
     }
-    match serde_json::to_string(page.alloc(), &airs) {
-        Ok(json) => page.word(json.as_str())?,
-        Err(_) => return Err(AllocError),
-    }
-    page.word("\n")
+    push_object(page, &airs)
 }
 
 /// Appends the lookups of an AIR.

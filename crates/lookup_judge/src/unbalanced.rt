@@ -1,8 +1,8 @@
 //! The tuples that do not balance, with the names and lines of their author.
+use crate::fields::TableField;
 use crate::page::{Page, characters};
 use crate::sections::{Told, group_cell};
 use crate::words::{air_at, bus_named, first_word, lookup_at, trace_file};
-use crate::fields::TableField;
 use lookup::debug_util::{BusGroup, GroupName, Location, SignedField, UnbalancedTuple};
 use lookup_names::bytes_of;
 use lookup_text::{Span, place_of};
@@ -149,7 +149,7 @@ fn field_of(told: Told<'_>, group: &GroupName, index: usize) -> Option<Span> {
 }
 
 /// An element without its sign.
-fn magnitude<F: TableField>(element: F) -> u128 {
+pub(crate) fn magnitude<F: TableField>(element: F) -> u128 {
     let number = element.as_number();
     let size = if element.is_negative() {
         F::modulus().saturating_sub(number)

@@ -5,10 +5,9 @@ ghost use Rattle.witness_text.specs.Lines.{witness_lines};
 ghost use Rattle.witness_text.specs.declared.reading.WitnessFault.TheVariants.{Memory};
 
 use crate::writing::push_witness;
-use checker::Witness;
 use field::Field;
 use field_words::Challenge;
-use lookup_model::LookupTerminal;
+use lookup_model::{LookupTerminal, Witness};
 use matrix::RowMajorMatrix;
 use std::alloc::{AllocError, AllocFailed, Global};
 
@@ -181,7 +180,7 @@ fn push_row<F: Field, EF: Challenge<F>>(
 }
 
 /// Moves the AIR that is being read to those before it.
-fn finish_air<EF>(alloc: Global, reading: &mut Reading<EF>) -> Result<(), AllocError> {
+fn finish_air<EF: Drop>(alloc: Global, reading: &mut Reading<EF>) -> Result<(), AllocError> {
     let Some(air) = reading.air.take() else {
         return Ok(());
     };

@@ -4,9 +4,8 @@ ghost use Rattle.std.specs.List.{flat_map};
 ghost use Rattle.lookup_model.specs.Batches.Witnesses.{results_of};
 ghost use Rattle.witness_text.specs.Lines.{air_lines, row_line, witness_lines};
 
-use checker::Witness;
 use field::Field;
-use lookup_model::LookupTerminal;
+use lookup_model::{LookupTerminal, Witness};
 use matrix::RowMajorMatrix;
 use std::alloc::{AllocError, Global};
 
