@@ -24,7 +24,7 @@ pub fn command_line<'a>(alloc: Global, fields: &'a [&'a str]) -> Result<Command<
         .subcommand(bits_command(alloc, fields)?)
 }
 
-/// The program, with the commands that take no challenges.
+/// The program, with its commands up to `show`.
 fn up_to_show<'a>(alloc: Global, fields: &'a [&'a str]) -> Result<Command<'a>, AllocError>
     ensures { IfOk result (IsCommand (app_to_show fields.entry)) }
 {
