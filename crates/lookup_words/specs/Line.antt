@@ -100,7 +100,8 @@ with_rules app rules = fold with_rule app rules
 
 -- `NAME FILE [--field NAME] [--progress]`, over one of the fields
 abbrev pub file_app : Text → Names → App
-file_app name fields = with_rules (new_app name) (file_rule ∷ field_rule fields ∷ progress_rule ∷ [])
+file_app name fields =
+    with_rules (new_app name) (file_rule ∷ field_rule fields ∷ progress_rule ∷ [])
 
 -- `check FILE .. [--limit N] [--degree D] [--json]`
 abbrev pub check_app : Names → App
@@ -162,7 +163,7 @@ bare_app = let a = new_app (codes "lookup-check") in
 abbrev pub with_commands : App → List App → App
 with_commands app commands = fold (λ a command. with_subcommand a command.top) app commands
 
--- the program, with the commands that take no challenges
+-- the program, with its commands up to `show`
 abbrev pub app_to_show : Names → App
 app_to_show fields = with_commands bare_app
     (check_app fields ∷ plan_app fields ∷ pack_app fields ∷ show_app fields ∷ [])

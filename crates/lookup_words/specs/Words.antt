@@ -34,7 +34,7 @@ HasNumber rows id n = IsSomeAnd (first_of id rows) (IsNumber n)
 abbrev pub HasNumberOr : List Row → Text → ℕ → ℕ → Type 0
 HasNumberOr rows id other n = MatchOption (first_of id rows) (n ≡ other) (IsNumber n)
 
--- the same of an option with no default, which may have none
+-- the value of the option is this number, or it has no value
 abbrev pub HasOptionalNumber : List Row → Text → Option ℕ → Type 0
 HasOptionalNumber rows id number = MatchOption number (first_of id rows ≡ None) (HasNumber rows id)
 
@@ -49,7 +49,7 @@ field_text Goldilocks2 = codes "goldilocks2"
 abbrev pub HasText : List Row → Text → Text → Type 0
 HasText rows id text = first_of id rows ≡ Some text
 
--- the same of an option with no default, which may have none
+-- the value of the option is this text, or it has no value
 abbrev pub HasOptionalText : List Row → Text → Option (Bor Text) → Type 0
 HasOptionalText rows id text = first_of id rows ≡ option_map (λ s. s.now) text
 

@@ -1,5 +1,4 @@
 //! The arguments and options of the program's commands, for `clap`.
-ghost use Rattle.std.specs.Prelude.{codes};
 ghost use Rattle.lookup_words.specs.Line.{alpha_rule, beta_rule, degree_rule, field_rule};
 ghost use Rattle.lookup_words.specs.Line.{file_rule, flag_rule, json_rule, limit_rule};
 ghost use Rattle.lookup_words.specs.Line.{messages_rule, number_rule, out_rule, progress_rule};

@@ -1,5 +1,6 @@
 //! The commands of the program, for `clap`.
 ghost use Rattle.std.specs.Prelude.{IfOk};
+ghost use Rattle.clap.specs.Words.{new_app};
 ghost use Rattle.lookup_words.specs.Line.{accept_app, any_app, app_to_show, bare_app, bits_app};
 ghost use Rattle.lookup_words.specs.Line.{challenge_app, check_app, file_app, line_app};
 ghost use Rattle.lookup_words.specs.Line.{message_bits_app, pack_app, plan_app, show_app};
@@ -24,7 +25,7 @@ pub fn command_line<'a>(alloc: Global, fields: &'a [&'a str]) -> Result<Command<
         .subcommand(bits_command(alloc, fields)?)
 }
 
-/// The program, with the commands that take no challenges.
+/// The program, with its commands up to `show`.
 fn up_to_show<'a>(alloc: Global, fields: &'a [&'a str]) -> Result<Command<'a>, AllocError>
     ensures { IfOk result (IsCommand (app_to_show fields.entry)) }
 {
@@ -116,8 +117,7 @@ fn bits_command<'a>(alloc: Global, fields: &'a [&'a str]) -> Result<Command<'a>,
 fn message_bits<'a>(alloc: Global) -> Result<Command<'a>, AllocError>
     ensures { IfOk result (IsCommand message_bits_app) }
 {
-    Command::new(alloc, "bits")
-        .about("Says how many bits of security are left")
+    named_command(alloc, "bits", "Says how many bits of security are left")
         .arg(messages_arg(alloc))?
         .arg(unbalanced_arg(alloc))?
         .arg(width_arg(alloc))
@@ -146,9 +146,15 @@ fn file_command<'a>(
 ) -> Result<Command<'a>, AllocError>
     ensures { IfOk result (IsCommand (file_app name.now fields.entry)) }
 {
-    Command::new(alloc, name)
-        .about(about)
+    named_command(alloc, name, about)
         .arg(file_arg(alloc))?
         .arg(field_arg(alloc, fields))?
         .arg(progress_arg(alloc))
+}
+
+/// A command with no argument yet.
+fn named_command<'a>(alloc: Global, name: &'a str, about: &'a str) -> Command<'a>
+    ensures { IsCommand (new_app name.now) result }
+{
+    Command::new(alloc, name).about(about)
 }

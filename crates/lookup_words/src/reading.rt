@@ -1,5 +1,5 @@
 //! From what `clap` found to a request.
-ghost use Rattle.std.specs.Prelude.{◌≡◌, ◌↔◌, ℕ, Option, MatchOption, IsTrue, codes};
+ghost use Rattle.std.specs.Prelude.{ℕ, Option, MatchOption, codes};
 ghost use Rattle.clap.specs.Words.{found_of, rows_of, subcommand_rows_of};
 ghost use Rattle.lookup_words.specs.Words.{HasChallenges, HasField, HasFlag, HasNumber};
 ghost use Rattle.lookup_words.specs.Words.{HasNumberOr, HasOptionalNumber, HasOptionalText};
@@ -35,6 +35,7 @@ fn bits_of(found: &ArgMatches<'_>) -> Option<BitsRequest>
     let unbalanced = number_or(found, "unbalanced", messages)?;
     let width = number_of(found, "width")?;
     let target = optional_number_of(found, "target")?;
+    let json = is_set(found, "json");
     if messages < unbalanced {
         return None;
     }
@@ -44,7 +45,7 @@ fn bits_of(found: &ArgMatches<'_>) -> Option<BitsRequest>
         unbalanced,
         width,
         target,
-        json: is_set(found, "json"),
+        json,
     })
 }
 
@@ -167,8 +168,7 @@ fn number_or(found: &ArgMatches<'_>, id: &str, other: u64) -> Option<u64>
     }
 }
 
-/// The number that an option has, and that it has none where it is not there. `None` if its value
-/// is no number.
+/// The number that an option has, or none where it is not there. `None` if its value is no number.
 fn optional_number_of(found: &ArgMatches<'_>, id: &str) -> Option<Option<u64>>
     ensures { MatchOption result
         ((n : Option ℕ) → HasOptionalNumber (rows_of (found_of found.now)) id.now n → ⊥)
