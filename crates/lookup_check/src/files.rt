@@ -48,11 +48,7 @@ pub(crate) fn read_files(
 fn bytes_in(rt: &HostRuntime, file: &str) -> Result<Vec<u8>, RunRefusal> {
     match bytes_of(rt, file)? {
         Some(bytes) => Ok(bytes),
-        None => Err(RunRefusal::of_file(
-            rt.alloc(),
-            file.as_bytes(),
-            "cannot be read",
-        )?),
+        None => Err(RunRefusal::of_file(rt.alloc(), file.as_bytes(), "cannot be read")?),
     }
 }
 

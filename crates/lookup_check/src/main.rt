@@ -50,7 +50,13 @@ fn over_files(rt: &HostRuntime, words: &[String]) -> ExitCode {
     steps.tell(rt, "answering");
     let status = match file_out(request) {
         Some(file) => run_to_file(rt, words, inputs, file),
-        None => run(rt.alloc(), words, inputs, &mut rt.stdout(), &mut rt.stderr()),
+        None => run(
+            rt.alloc(),
+            words,
+            inputs,
+            &mut rt.stdout(),
+            &mut rt.stderr(),
+        ),
     };
     steps.tell(rt, "done");
     status

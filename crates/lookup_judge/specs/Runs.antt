@@ -146,31 +146,31 @@ module _ {F K : Type 0} (fields : Fields F K) (number : F → ℕ) (text : List 
   AnswersOver challenges (Any words) witness answer = IsDecision words answer
 
 module _
-  (S : Fields (Residue 7) (Residue 7))
-  (B : Fields (Residue 2013265921) (Quartic (Residue 2013265921)))
-  (K : Fields (Residue 2130706433) (Quartic (Residue 2130706433)))
-  (G : Fields (Residue 18446744069414584321) (Quadratic (Residue 18446744069414584321)))
+    (S : Fields (Residue 7) (Residue 7))
+    (B : Fields (Residue 2013265921) (Quartic (Residue 2013265921)))
+    (K : Fields (Residue 2130706433) (Quartic (Residue 2130706433)))
+    (G : Fields (Residue 18446744069414584321) (Quadratic (Residue 18446744069414584321)))
   where
-  -- the answer to a task over the field with this name
-  abbrev pub AnswersIn : FieldName → Task → List ℕ → List File → List ℕ → Answer → Type 0
-  AnswersIn F7 task text files = AnswersOver S (λ x. x.value) text files (challenges_of F7) task
-  AnswersIn BabyBear4 task text files = AnswersOver B (λ x. x.value) text files (challenges_of BabyBear4) task
-  AnswersIn KoalaBear4 task text files = AnswersOver K (λ x. x.value) text files (challenges_of KoalaBear4) task
-  AnswersIn Goldilocks2 task text files = AnswersOver G (λ x. x.value) text files (challenges_of Goldilocks2) task
+    -- the answer to a task over the field with this name
+    abbrev pub AnswersIn : FieldName → Task → List ℕ → List File → List ℕ → Answer → Type 0
+    AnswersIn F7 task text files = AnswersOver S (λ x. x.value) text files (challenges_of F7) task
+    AnswersIn BabyBear4 task text files = AnswersOver B (λ x. x.value) text files (challenges_of BabyBear4) task
+    AnswersIn KoalaBear4 task text files = AnswersOver K (λ x. x.value) text files (challenges_of KoalaBear4) task
+    AnswersIn Goldilocks2 task text files = AnswersOver G (λ x. x.value) text files (challenges_of Goldilocks2) task
 
-  -- The answer to what is asked: to a task of a batch that of its field, and to `bits` yes if as many bits are left in
-  -- its field as are wanted.
-  abbrev pub AnswersTo : Asked → List ℕ → List File → List ℕ → Answer → Type 0
-  AnswersTo (Batch request) text files witness answer = AnswersIn request.field request.task text files witness answer
-  AnswersTo (Bits request) text files witness answer = IsTrue answer.yes ↔ MeetsTarget (challenges_of request.field) request.target (request.width * (request.unbalanced - 1)) (alphas_of request.messages request.unbalanced)
+    -- The answer to what is asked: to a task of a batch that of its field, and to `bits` yes if as many bits are left in
+    -- its field as are wanted.
+    abbrev pub AnswersTo : Asked → List ℕ → List File → List ℕ → Answer → Type 0
+    AnswersTo (Batch request) text files witness answer = AnswersIn request.field request.task text files witness answer
+    AnswersTo (Bits request) text files witness answer = IsTrue answer.yes ↔ MeetsTarget (challenges_of request.field) request.target (request.width * (request.unbalanced - 1)) (alphas_of request.messages request.unbalanced)
 
-  -- The answer to the words of a command line: to what they ask for, or the help that they ask for, which is
-  -- yes.
-  abbrev pub IsAnswer : List (List ℕ) → List ℕ → List File → List ℕ → Answer → Type 0
-  IsAnswer words text files witness answer =
-      (names : Names) × HasFieldNames names
-      × (((asked : Asked) × IsAsked (line_app names) words asked × AnswersTo asked text files witness answer)
-      ⊎ ((help : String Global) × IsRefused (line_app names) words (Help help) × (answer.yes ≡ true)))
+    -- The answer to the words of a command line: to what they ask for, or the help that they ask for, which is
+    -- yes.
+    abbrev pub IsAnswer : List (List ℕ) → List ℕ → List File → List ℕ → Answer → Type 0
+    IsAnswer words text files witness answer =
+        (names : Names) × HasFieldNames names
+        × (((asked : Asked) × IsAsked (line_app names) words asked × AnswersTo asked text files witness answer)
+        ⊎ ((help : String Global) × IsRefused (line_app names) words (Help help) × (answer.yes ≡ true)))
 
 -- The status of a run, and what becomes of its outputs. An answer is written whole, with status 0 if it is
 -- yes and 1 if not, and nothing to the errors; or the status is 2. A refusal has status 2, and leaves

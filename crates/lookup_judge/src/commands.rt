@@ -178,11 +178,7 @@ fn plan<F: TableField, EF: Challenge<F>>(
 }
 
 /// `show`: each lookup as it was understood, in words or in JSON.
-fn show<F: TableField>(
-    alloc: Global,
-    given: Given<'_>,
-    json: bool,
-) -> Result<Answer, RunRefusal>
+fn show<F: TableField>(alloc: Global, given: Given<'_>, json: bool) -> Result<Answer, RunRefusal>
     ensures { IfOk result (λ answer. answer.yes ≡ true) }
 {
     let batch = batch_of(alloc, given)?;

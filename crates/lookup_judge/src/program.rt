@@ -117,11 +117,7 @@ fn write_and_flush<W: Write>(bytes: &[u8], output: &mut W) -> io::Result<()>
 }
 
 /// What a run answers to its words.
-fn answer_of(
-    alloc: Global,
-    words: &[String],
-    inputs: Inputs<'_>,
-) -> Result<Answer, RunRefusal>
+fn answer_of(alloc: Global, words: &[String], inputs: Inputs<'_>) -> Result<Answer, RunRefusal>
     ensures { let S = ⟦<F7 as Written<F7>>⟧.fields in
         let B = ⟦<BabyBear4 as Written<BabyBear>>⟧.fields in
         let K = ⟦<KoalaBear4 as Written<KoalaBear>>⟧.fields in
@@ -141,11 +137,7 @@ fn answer_of(
 }
 
 /// The answer to what is asked.
-fn answer_to(
-    alloc: Global,
-    asked: Asked<'_>,
-    inputs: Inputs<'_>,
-) -> Result<Answer, RunRefusal>
+fn answer_to(alloc: Global, asked: Asked<'_>, inputs: Inputs<'_>) -> Result<Answer, RunRefusal>
     ensures { let S = ⟦<F7 as Written<F7>>⟧.fields in
         let B = ⟦<BabyBear4 as Written<BabyBear>>⟧.fields in
         let K = ⟦<KoalaBear4 as Written<KoalaBear>>⟧.fields in
@@ -173,7 +165,10 @@ fn answer_in(
         inputs.entry.text.now (map named_of inputs.entry.files.now) inputs.entry.witness.now) }
 {
     let BatchRequest {
-        file, field, task, ..
+        file,
+        field,
+        task,
+        ..
     } = request;
     let given = Given::new(file, inputs);
     match field {

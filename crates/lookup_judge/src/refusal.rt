@@ -133,7 +133,10 @@ impl RunRefusal {
         refusal: TableRefusal,
     ) -> Result<RunRefusal, AllocError> {
         let Given {
-            file, text, files, ..
+            file,
+            text,
+            files,
+            ..
         } = given;
         let TableRefusal {
             file: named,

@@ -133,7 +133,11 @@ fn words(rt: HostRuntime) {
     holds(&rt, "of F7", F7::from_word(b"6") == Some(F7::new(6)));
     let pair = Goldilocks2::new([times_one(3), times_one(1)]);
     holds(&rt, "two", Goldilocks2::from_word(b"3,1") == Some(pair));
-    holds(&rt, "three of four", BabyBear4::from_word(b"1,2,3").is_none());
+    holds(
+        &rt,
+        "three of four",
+        BabyBear4::from_word(b"1,2,3").is_none(),
+    );
 }
 
 /// The table of two columns with these numbers.

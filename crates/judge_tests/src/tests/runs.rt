@@ -79,7 +79,11 @@ fn commands(rt: HostRuntime) {
         ends(alloc, &["show", "f", "--json"], received, 0),
     );
     let bits = ["bits", "--messages", "8", "--target", "119"];
-    holds(&rt, "119 bits of 123 less 4", ends(alloc, &bits, received, 0));
+    holds(
+        &rt,
+        "119 bits of 123 less 4",
+        ends(alloc, &bits, received, 0),
+    );
     let bits = ["bits", "--messages", "8", "--target", "120"];
     holds(&rt, "and not 120", ends(alloc, &bits, received, 1));
     holds(&rt, "help", ends(alloc, &["--help"], received, 0));

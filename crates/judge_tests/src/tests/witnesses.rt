@@ -40,7 +40,11 @@ fn texts(rt: HostRuntime) {
     let Ok(made) = witness(alloc) else {
         return holds(&rt, "memory", false);
     };
-    holds(&rt, "written", push_witness(alloc, &mut text, &made).is_ok());
+    holds(
+        &rt,
+        "written",
+        push_witness(alloc, &mut text, &made).is_ok(),
+    );
     holds(&rt, "its lines", text.as_bytes() == WITNESS);
     match read_witness::<F7, F7>(alloc, WITNESS) {
         Ok(Witness { aux, terminals }) => {
@@ -97,7 +101,9 @@ fn status_of(alloc: Global, words: &[&str], witness: &[u8]) -> Result<ExitCode, 
 
 /// Whether a command about a witness at alpha 5 and this beta ends with this status.
 fn ends(alloc: Global, command: &str, beta: &str, witness: &[u8], status: u8) -> bool {
-    let words = [command, "f", "--field", "f7", "--alpha", "5", "--beta", beta];
+    let words = [
+        command, "f", "--field", "f7", "--alpha", "5", "--beta", beta,
+    ];
     let mut all = Vec::new(alloc);
     let more: &[&str] = if command == "accept" {
         &["--witness", "w"]
