@@ -101,7 +101,7 @@ fn check_count(airs: usize, tables: usize) -> Result<(), JudgeFault>
 }
 
 /// The AIRs among the sections of a batch.
-fn airs_of(alloc: Global, batch: &BatchText) -> Result<Vec<&AirText>, AllocError>
+pub(crate) fn airs_of(alloc: Global, batch: &BatchText) -> Result<Vec<&AirText>, AllocError>
     ensures { IfOk result (λ v. map (λ a. air_of a.now) v.items
         ≡ airs_of (map section_of batch.now.sections.items)) }
 {

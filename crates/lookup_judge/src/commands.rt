@@ -7,7 +7,7 @@ ghost use Rattle.lookup_judge.specs.Bits.{challenges_of};
 ghost use Rattle.lookup_judge.specs.Runs.{AnswersOver, IsPlanned, IsVerdict};
 ghost use Rattle.lookup_text.specs.Batches.{batch_at, section_of};
 
-use crate::airs::airs_named;
+use crate::airs::{airs_named, airs_of};
 use crate::bits::push_target;
 use crate::fault::JudgeFault;
 use crate::fields::TableField;
@@ -112,9 +112,11 @@ fn check<F: TableField, EF: Challenge<F>>(
     match judge::<F, EF>(alloc, text, &batch, &tables, most, max_degree) {
         Ok(report) => {
             let mut page = Page::new(alloc);
+            let airs = airs_of(alloc, &batch)?;
             let told = Told {
                 text,
                 batch: &batch,
+                airs: airs.as_slice(),
                 field,
                 limit,
                 max_degree,
@@ -151,9 +153,11 @@ fn plan<F: TableField, EF: Challenge<F>>(
     match judge_plan::<F, EF>(alloc, given.text, &batch, &shapes, max_degree) {
         Ok(report) => {
             let mut page = Page::new(alloc);
+            let airs = airs_of(alloc, &batch)?;
             let told = Told {
                 text: given.text,
                 batch: &batch,
+                airs: airs.as_slice(),
                 field,
                 limit: 0,
                 max_degree,

@@ -5,7 +5,7 @@ use crate::page::Page;
 use crate::report::{AirReport, PlanReport, Report};
 use crate::sections::{Told, air_name};
 use crate::unbalanced::magnitude;
-use crate::words::{air_at, lookup_at, trace_file};
+use crate::words::{lookup_at, trace_file};
 use lookup::debug_util::{BusGroup, GroupName, Place, UnbalancedTuple};
 use lookup_names::bytes_of;
 use lookup_text::place_of;
@@ -356,7 +356,7 @@ fn place_object<'a, F: TableField>(
 ) -> Result<PlaceObject<'a>, AllocError> {
     let location = place.location;
     let (mut file, mut text_line) = (None, 0);
-    if let Some(air) = air_at(told.batch, location.instance) {
+    if let Some(air) = told.airs.get(location.instance) {
         if let Some(name) = trace_file(air, false) {
             file = str::from_utf8(bytes_of(told.text, name)).ok();
         }

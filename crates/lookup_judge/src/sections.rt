@@ -7,10 +7,10 @@ use crate::fields::TableField;
 use crate::page::{Page, head, number_cell, numbers_cell, shown_cell, word_cell};
 use crate::report::{AirReport, PlanReport, Report};
 use crate::unbalanced::push_unbalanced;
-use crate::words::{air_at, bus_named};
+use crate::words::bus_named;
 use lookup::debug_util::{BusGroup, GroupName};
 use lookup_names::bytes_of;
-use lookup_text::BatchText;
+use lookup_text::{AirText, BatchText};
 use lookup_words::FieldName;
 use std::alloc::AllocError;
 
@@ -20,6 +20,8 @@ pub(crate) struct Told<'a> {
     /// The text of the batch.
     pub(crate) text: &'a [u8],
     pub(crate) batch: &'a BatchText,
+    /// Its AIRs, in their order.
+    pub(crate) airs: &'a [&'a AirText],
     pub(crate) field: FieldName,
     /// How many unbalanced tuples of a bus are told, and how many places of a tuple.
     pub(crate) limit: usize,
@@ -93,7 +95,7 @@ pub(crate) fn push_airs(
 
 /// The name of the AIR with this number.
 pub(crate) fn air_name(told: Told<'_>, air: usize) -> &[u8] {
-    match air_at(told.batch, air) {
+    match told.airs.get(air) {
         Some(said) => bytes_of(told.text, said.name),
         None => &[],
     }
@@ -158,9 +160,7 @@ pub(crate) fn group_cell(
         GroupName::Bus(name) => cell.shown(name.as_bytes())?,
         GroupName::Local { instance, lookup } => {
             cell.word("local ")?;
-            if let Some(air) = air_at(told.batch, *instance) {
-                cell.shown(bytes_of(told.text, air.name))?;
-            }
+            cell.shown(air_name(told, *instance))?;
             cell.word(" ")?;
             cell.number(*lookup as u128)?;
         }

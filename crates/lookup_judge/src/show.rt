@@ -1,8 +1,9 @@
 //! Lookups as they are understood, in the words of the language.
+use crate::airs::airs_of;
 use crate::json::push_object;
 use crate::mark::is_name;
 use crate::page::{Page, head, number_cell, shown_cell, word_cell};
-use crate::words::{air_at, public_name};
+use crate::words::public_name;
 use lookup::Lookups;
 use lookup_files::AirShape;
 use lookup_names::{NamedAir, NamedLookup, NamedPart, Value, bytes_of};
@@ -42,13 +43,12 @@ pub(crate) fn push_lookups(
     shapes: &[AirShape],
     airs: &[NamedAir],
 ) -> Result<(), AllocError> {
-    for (index, (named, shape)) in airs.iter().zip(shapes).enumerate() {
-        let Some(air) = air_at(batch, index) else {
-            return Ok(());
-        };
+    let said = airs_of(page.alloc(), batch)?;
+    for (index, ((air, named), shape)) in said.iter().zip(airs).zip(shapes).enumerate() {
         if index > 0 {
             page.word("\n")?;
         }
+        let air = *air;
         push_air(page, Called { text, air, shape }, named)?;
     }
     Ok(())
@@ -61,12 +61,10 @@ pub(crate) fn push_json<F: Serialize>(
     batch: &BatchText,
     sets: &[Lookups<F>],
 ) -> Result<(), AllocError> {
+    let said = airs_of(page.alloc(), batch)?;
     let mut airs = Vec::new(page.alloc());
-    for (index, lookups) in sets.iter().enumerate() {
-        let name = match air_at(batch, index) {
-            Some(air) => str::from_utf8(bytes_of(text, air.name)).ok(),
-            None => None,
-        };
+    for (air, lookups) in said.iter().zip(sets) {
+        let name = str::from_utf8(bytes_of(text, air.name)).ok();
         airs.push(ShownAir { name, lookups })?;
     }
     push_object(page, &airs)

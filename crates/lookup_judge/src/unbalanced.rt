@@ -2,7 +2,7 @@
 use crate::fields::TableField;
 use crate::page::{Page, characters};
 use crate::sections::{Told, group_cell};
-use crate::words::{air_at, bus_named, first_word, lookup_at, trace_file};
+use crate::words::{bus_named, first_word, lookup_at, trace_file};
 use lookup::debug_util::{BusGroup, GroupName, Location, SignedField, UnbalancedTuple};
 use lookup_names::bytes_of;
 use lookup_text::{Span, place_of};
@@ -174,7 +174,7 @@ fn push_place<F: TableField>(
     page.blanks(10usize.saturating_sub(characters(&number.bytes)))?;
     page.bytes.extend_from_slice(&number.bytes)?;
     page.word(" at ")?;
-    let Some(air) = air_at(told.batch, location.instance) else {
+    let Some(air) = told.airs.get(location.instance) else {
         return page.word("?\n");
     };
     if let Some(file) = trace_file(air, false) {
