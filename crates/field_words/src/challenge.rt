@@ -5,17 +5,15 @@ ghost use Rattle.field_words.specs.Fields.{Fields, run_fields};
 ghost use Rattle.field_words.specs.Words.{WritesNumbers, WritesQuadratic, WritesQuartic, WritesResidue, number_of, number_bound};
 
 use field::{
-    ExtensionDomain, ExtensionField, F7, Field, MontyField31, MontyQuartic,
-    PrimeCharacteristicRing, QuarticParameters,
+    ExtensionField, F7, Field, MontyField31, MontyQuartic, PrimeCharacteristicRing,
+    QuarticParameters,
 };
 use goldilocks::{Goldilocks, Goldilocks2};
 
 /// A field whose elements can be given as challenges for rows over the field `F`. `written` says
-/// which element a word gives, and `fields` what a run over the two fields works with.
+/// which element a word gives.
 pub trait Challenge<F: Field>: ExtensionField<F> {
     ghost written: { List ℕ → Self → Type 0 };
-
-    ghost fields: { Fields F Self };
 
     /// The element that a word gives, or `None` if it gives none.
     fn from_word(word: &[u8]) -> Option<Self>
@@ -40,11 +38,6 @@ impl<F: Field, EF: Challenge<F>> Written<F> for EF {
 impl Challenge<F7> for F7 {
     ghost written = { λ word x. WritesResidue word x };
 
-    ghost fields = { run_fields ⟦<F7 as PrimeCharacteristicRing>⟧.ring ⟦<F7 as PartialEq>⟧.eq 7
-        ⟦<F7 as PrimeCharacteristicRing>⟧.ring ⟦<F7 as PartialEq>⟧.eq
-        ⟦<F7 as ExtensionDomain<F7>>⟧.embed ⟦<F7 as Field>⟧.inverse
-        (λ word x. WritesResidue word x) ⟦<F7 as Field>⟧.text ⟦<F7 as Field>⟧.text };
-
     fn from_word(word: &[u8]) -> Option<F7> {
         element(word)
     }
@@ -54,14 +47,6 @@ impl Challenge<F7> for F7 {
 /// `1, X, X^2, X^3`.
 impl<const P: u32, K: QuarticParameters<P>> Challenge<MontyField31<P, K>> for MontyQuartic<P, K> {
     ghost written = { λ word x. WritesQuartic word x };
-
-    ghost fields = { run_fields ⟦<MontyField31<P, K> as PrimeCharacteristicRing>⟧.ring
-        ⟦<MontyField31<P, K> as PartialEq>⟧.eq P
-        ⟦<MontyQuartic<P, K> as PrimeCharacteristicRing>⟧.ring
-        ⟦<MontyQuartic<P, K> as PartialEq>⟧.eq
-        ⟦<MontyQuartic<P, K> as ExtensionDomain<MontyField31<P, K>>>⟧.embed
-        ⟦<MontyQuartic<P, K> as Field>⟧.inverse (λ word x. WritesQuartic word x)
-        ⟦<MontyQuartic<P, K> as Field>⟧.text ⟦<MontyField31<P, K> as Field>⟧.text };
 
     fn from_word(word: &[u8]) -> Option<MontyQuartic<P, K>> {
         let mut numbers = [0; 4];
@@ -76,13 +61,6 @@ impl<const P: u32, K: QuarticParameters<P>> Challenge<MontyField31<P, K>> for Mo
 /// Two numbers below the characteristic, separated by a comma: the coefficients of `1, X`.
 impl Challenge<Goldilocks> for Goldilocks2 {
     ghost written = { λ word x. WritesQuadratic word x };
-
-    ghost fields = { run_fields ⟦<Goldilocks as PrimeCharacteristicRing>⟧.ring
-        ⟦<Goldilocks as PartialEq>⟧.eq 18446744069414584321
-        ⟦<Goldilocks2 as PrimeCharacteristicRing>⟧.ring ⟦<Goldilocks2 as PartialEq>⟧.eq
-        ⟦<Goldilocks2 as ExtensionDomain<Goldilocks>>⟧.embed ⟦<Goldilocks2 as Field>⟧.inverse
-        (λ word x. WritesQuadratic word x) ⟦<Goldilocks2 as Field>⟧.text
-        ⟦<Goldilocks as Field>⟧.text };
 
     fn from_word(word: &[u8]) -> Option<Goldilocks2> {
         let mut numbers = [0; 2];

@@ -46,14 +46,14 @@ pub(crate) fn read_files(
 
 /// The bytes of a file that has to be there.
 fn bytes_in(rt: &HostRuntime, file: &str) -> Result<Vec<u8>, RunRefusal> {
-    match bytes_of(rt, file)? {
+    match read_file(rt, file)? {
         Some(bytes) => Ok(bytes),
         None => Err(RunRefusal::of_file(rt.alloc(), file.as_bytes(), "cannot be read")?),
     }
 }
 
 /// The bytes of a file, or `None` where it cannot be read.
-fn bytes_of(rt: &HostRuntime, file: &str) -> Result<Option<Vec<u8>>, RunRefusal> {
+fn read_file(rt: &HostRuntime, file: &str) -> Result<Option<Vec<u8>>, RunRefusal> {
     match fs::read(rt, file) {
         Ok(bytes) => Ok(Some(bytes)),
         Err(error) if error.kind() == io::ErrorKind::OutOfMemory => Err(RunRefusal::Memory),
@@ -71,9 +71,13 @@ fn contents(rt: &HostRuntime, file: &str, text: &[u8]) -> Result<Vec<NamedFile>,
         Err(TextFault::Fault(_)) => return Ok(files),
     };
     for name in files_of(alloc, text, &batch)? {
+        // the first file of a name is the one that counts
+        if files.iter().any(|file: &NamedFile| file.name == name) {
+            continue;
+        }
         let path = beside(alloc, file, name.as_slice())?;
         let content = match str::from_utf8(path.as_slice()) {
-            Ok(path) => bytes_of(rt, path)?,
+            Ok(path) => read_file(rt, path)?,
             Err(_) => None,
         };
         files.push(NamedFile { name, content })?;

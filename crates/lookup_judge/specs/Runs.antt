@@ -1,5 +1,5 @@
 -- What a run answers, writes and ends with.
-use Rattle.std.specs.Prelude.{◌≡◌, ◌⊎◌, ◌↔◌, ◌++◌, ◌-◌, ◌*◌, ℕ, Bool, true, false, IsTrue, List, Option, Some, None, Result, Ok, MatchResult, codes, cond, map}
+use Rattle.std.specs.Prelude.{◌≡◌, ◌⊎◌, ◌↔◌, ◌++◌, ◌-◌, ◌*◌, ℕ, Bool, true, false, IsTrue, List, Option, Some, None, Result, Ok, MatchResult, codes, cond, map, max}
 use Rattle.std.specs.Io.KnownBytes.{Appends}
 use Rattle.std.specs.List.{AllZip}
 use Rattle.std.specs.Option.{ForSome}
@@ -37,7 +37,7 @@ use Rattle.batch.specs.Plans.{FitPlan, Plan as PlanOf, plan_batch}
 use Rattle.batch.specs.Runs.{Proves, ProvesSatisfied, Run, run_of}
 use Rattle.batch.specs.Traces.{view_of}
 use Rattle.batch.specs.declared.trace.BatchTrace.{BatchTrace}
-use Rattle.witness_text.specs.Lines.{witness_lines}
+use Rattle.witness_text.specs.Lines.{IsTextOf, witness_lines}
 use Rattle.lookup_judge.specs.Bits.{MeetsTarget, alphas_of, challenges_of}
 use Rattle.lookup_judge.specs.Found.{IsFound, IsPlanFound, IsPlanOf, sized_of, sized_over}
 use Rattle.lookup_judge.specs.Said.{AreLookupsOf, AreSaid, SayOver, airs_of}
@@ -50,6 +50,16 @@ use Rattle.lookup_judge.specs.declared.report.Report.{Report}
 abbrev pub verdict_line : Bool → List ℕ
 verdict_line true = codes "\nBALANCED: every tuple of every bus and local lookup cancels\n"
 verdict_line false = codes "\nNOT BALANCED\n"
+
+-- what tells whether a witness is accepted: if it is not, why
+abbrev pub IsAcceptanceTold : Bool → List ℕ → Type 0
+IsAcceptanceTold true text = text ≡ codes "ACCEPTED: the witness satisfies all constraints, and its terminals sum to zero\n"
+IsAcceptanceTold false text = (why : List ℕ) × (text ≡ codes "NOT ACCEPTED: " ++ why)
+
+-- the line that tells whether any witness is accepted
+abbrev pub decision_line : Bool → List ℕ
+decision_line true = codes "SOME WITNESS: at these challenges a witness is accepted\n"
+decision_line false = codes "NO WITNESS: at these challenges none is accepted\n"
 
 -- the text ends with this line, unless it is JSON
 abbrev pub EndsWith : Bool → List ℕ → List ℕ → Type 0
@@ -66,14 +76,14 @@ module _ {F K : Type 0} (fields : Fields F K) (number : F → ℕ) (text : List 
     pub tables_are : all_tables text files fields.characteristic sections ≡ Ok tables
     pub said : AreSaid (of_nat fields.extension.base) text sections 1048576 (airs_of sections) tables traced
 
-  -- The answer to `check`: there is a report of the lookups and the traces that the files say; and the answer is yes
+  -- The answer to `check`: there is a report of the lookups and the traces that the files say, with as many tuples as
+  -- are told, or 64 if those are fewer; and the answer is yes
   -- if they balance, and no if they do not, as its last line says.
-  pub record IsVerdict (max_degree : ℕ) (json : Bool) (answer : Answer) : Type 0 where
+  pub record IsVerdict (limit max_degree : ℕ) (json : Bool) (answer : Answer) : Type 0 where
     pub traced : List (Traced F)
     pub batch : IsReadBatch traced
-    pub limit : ℕ
     pub report : Report F
-    pub found : IsFound fields.extension fields.characteristic limit max_degree number traced report
+    pub found : IsFound fields.extension fields.characteristic (max limit 64) max_degree number traced report
     pub verdict : answer.yes ≡ report.balanced
     pub balanced : IsTrue answer.yes ↔ AllBalance fields.extension.base fields.extension.base_eq traced
     pub told : EndsWith json (verdict_line answer.yes) answer.text.items
@@ -95,6 +105,18 @@ module _ {F K : Type 0} (fields : Fields F K) (number : F → ℕ) (text : List 
     pub report : PlanReport
     pub found : IsPlanFound fields.extension fields.characteristic max_degree (sized_over lookups shapes) plan report
     pub yes : IsTrue answer.yes ↔ MeetsTarget challenges target report.heights.bad_betas report.heights.accepting_alphas
+
+  -- The answer to `show`, which is yes: the text and the sizes of its AIRs can be read, no bus is declared twice, and the
+  -- items of all AIRs say something.
+  pub record IsShown (answer : Answer) : Type 0 where
+    pub sections : List Section
+    pub read : batch_at text ≡ Ok sections
+    pub distinct : distinct_buses text sections ≡ Ok tt
+    pub shapes : List Shape
+    pub shapes_are : all_shapes text files fields.characteristic sections ≡ Ok shapes
+    pub said : List Said
+    pub says : SayOver text sections 1048576 (airs_of sections) shapes said
+    pub yes : answer.yes ≡ true
 
   -- A run of a plan of the lookups and the traces that the files say, at the challenges that two words write.
   pub record IsReadRun (words : ChallengeWords) (run : Run F K) : Type 0 where
@@ -126,21 +148,23 @@ module _ {F K : Type 0} (fields : Fields F K) (number : F → ℕ) (text : List 
     pub run : Run F K
     pub over : IsReadRun words run
     pub witness : Witness K
-    pub bytes_are : bytes ≡ witness_lines fields.text (results_of witness)
+    pub bytes_are : IsTextOf fields.text bytes witness
     pub yes : IsTrue answer.yes ↔ (FitPlan run.plan run.traces × HasOneOfEach run.batch witness × IsAccepted run.fields run.table run.batch (results_of witness))
+    pub told : IsAcceptanceTold answer.yes answer.text.items
 
   -- The answer to `any`: yes if some witness, whoever makes it, is accepted, and no if none is.
   pub record IsDecision (words : ChallengeWords) (answer : Answer) : Type 0 where
     pub run : Run F K
     pub over : IsReadRun words run
     pub yes : IsTrue answer.yes ↔ IsAccepting run.fields run.batch run.plan.width run.beta run.alpha
+    pub told : answer.text.items ≡ decision_line answer.yes
 
-  -- The answer to a task over a field with so many challenges; to `show` it is yes.
+  -- the answer to a task over a field with so many challenges
   abbrev pub AnswersOver : ℕ → Task → List ℕ → Answer → Type 0
-  AnswersOver challenges (Check limit degree json) witness answer = IsVerdict degree json answer
+  AnswersOver challenges (Check limit degree json) witness answer = IsVerdict limit degree json answer
   AnswersOver challenges (Plan degree json target) witness answer = IsPlanned degree challenges target answer
   AnswersOver challenges (Pack degree json) witness answer = IsPlanned degree challenges None answer
-  AnswersOver challenges (Show json) witness answer = answer.yes ≡ true
+  AnswersOver challenges (Show json) witness answer = IsShown answer
   AnswersOver challenges (OfWitness words out) witness answer = IsWitnessed words answer
   AnswersOver challenges (Accept words file) witness answer = IsAcceptance words witness answer
   AnswersOver challenges (Any words) witness answer = IsDecision words answer
@@ -177,6 +201,5 @@ module _
 -- the output as it was.
 abbrev pub Ends : {W E : Type 0} → (W → Option (List ℕ)) → Result Answer RunRefusal → ℕ → W → W → E → E → Type 0
 Ends contents answer status output output_after errors errors_after = MatchResult answer
-    (λ a. (errors_after ≡ errors)
-    × (((status ≡ cond a.yes 0 1) × Appends (contents output) (contents output_after) a.text.items) ⊎ (status ≡ 2)))
+    (λ a. ((status ≡ cond a.yes 0 1) × Appends (contents output) (contents output_after) a.text.items × (errors_after ≡ errors)) ⊎ (status ≡ 2))
     (λ _. (status ≡ 2) × (output_after ≡ output))

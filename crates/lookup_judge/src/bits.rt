@@ -46,10 +46,7 @@ impl Deceiving {
     /// be wrong about.
     pub(crate) fn bits_in(self, field: FieldName) -> Option<u32> {
         let alphas = self.alphas?;
-        match bits_of(challenges(field), self.betas.saturating_add(alphas)) {
-            Some(bits) => Some(bits),
-            None => Some(0),
-        }
+        Some(bits_of(challenges(field), self.betas.saturating_add(alphas)).unwrap_or(0))
     }
 
     /// Whether as many bits are left in this field as are wanted.
@@ -63,13 +60,13 @@ impl Deceiving {
     }
 }
 
-/// Whether at least `wanted` bits are left where `bad` of `size` choices deceive.
+/// Whether at least `wanted` bits are left where `bad` of `size` choices deceive; no bit always is.
 fn leaves(size: u128, bad: u128, wanted: u64) -> bool
-    ensures { IsTrue result ↔ (bad * 2 ^ wanted ≤ size) }
+    ensures { IsTrue result ↔ ((wanted ≡ 0) ⊎ (bad * 2 ^ wanted ≤ size)) }
 {
     match bits_of(size, bad) {
         Some(bits) => wanted <= u64::from(bits),
-        None => bad == 0,
+        None => wanted == 0 || bad == 0,
     }
 }
 

@@ -4,7 +4,10 @@ ghost use Rattle.lookup_files.specs.Files.{named_of};
 ghost use Rattle.lookup_files.specs.Shapes.{all_shapes, shape_of};
 ghost use Rattle.lookup_files.specs.Tables.{all_tables, tables_of};
 ghost use Rattle.lookup_judge.specs.Bits.{challenges_of};
-ghost use Rattle.lookup_judge.specs.Runs.{AnswersOver, IsPlanned, IsVerdict};
+ghost use Rattle.lookup_judge.specs.Runs.{AnswersOver, IsPlanned, IsShown, IsVerdict};
+ghost use Rattle.lookup_judge.specs.Said.{SayOver, airs_of};
+ghost use Rattle.lookup_names.specs.Buses.{distinct_buses};
+ghost use Rattle.lookup_names.specs.Lookups.{said_of};
 ghost use Rattle.lookup_text.specs.Batches.{batch_at, section_of};
 
 use crate::airs::{airs_named, airs_of};
@@ -84,7 +87,7 @@ pub(crate) fn answer_over<F: TableField, EF: Challenge<F>>(
         Task::Pack { degree, json } => {
             plan::<F, EF>(alloc, given, field, degree, json, None, true)
         }
-        Task::Show { json } => show::<F>(alloc, given, json),
+        Task::Show { json } => show::<F, EF>(alloc, given, json),
         Task::Witness { challenges, .. } => witness::<F, EF>(alloc, given, field, challenges),
         Task::Accept {
             challenges,
@@ -104,7 +107,7 @@ fn check<F: TableField, EF: Challenge<F>>(
     json: bool,
 ) -> Result<Answer, RunRefusal>
     ensures { IfOk result (IsVerdict ⟦<EF as Written<F>>⟧.fields F.number given.entry.text.now
-        (map named_of given.entry.files.now) max_degree json) }
+        (map named_of given.entry.files.now) limit max_degree json) }
 {
     let batch = batch_of(alloc, given)?;
     let tables = tables_in(alloc, given, &batch, F::modulus())?;
@@ -182,8 +185,13 @@ fn plan<F: TableField, EF: Challenge<F>>(
 }
 
 /// `show`: each lookup as it was understood, in words or in JSON.
-fn show<F: TableField>(alloc: Global, given: Given<'_>, json: bool) -> Result<Answer, RunRefusal>
-    ensures { IfOk result (λ answer. answer.yes ≡ true) }
+fn show<F: TableField, EF: Challenge<F>>(
+    alloc: Global,
+    given: Given<'_>,
+    json: bool,
+) -> Result<Answer, RunRefusal>
+    ensures { IfOk result (IsShown ⟦<EF as Written<F>>⟧.fields given.entry.text.now
+        (map named_of given.entry.files.now)) }
 {
     let batch = batch_of(alloc, given)?;
     let shapes = shapes_in(alloc, given, &batch, F::modulus())?;
@@ -211,7 +219,12 @@ fn named_in(
     text: &[u8],
     batch: &BatchText,
     shapes: &[AirShape],
-) -> Result<Vec<NamedAir>, JudgeFault> {
+) -> Result<Vec<NamedAir>, JudgeFault>
+    ensures { let sections = map section_of batch.now.sections.items in
+        IfOk result (λ v. (distinct_buses text.now sections ≡ Ok tt)
+        × SayOver text.now sections 1048576 (airs_of sections) (map shape_of shapes.now)
+        (map said_of v.items)) }
+{
     check_buses(text, batch)?;
     airs_named(alloc, text, batch, shapes)
 }

@@ -53,6 +53,16 @@ impl TableField for F7 {
     }
 }
 
+/// The name of a field, as `--field` takes it.
+pub(crate) fn field_name(field: FieldName) -> &'static str {
+    match field {
+        FieldName::F7 => "f7",
+        FieldName::BabyBear4 => "babybear4",
+        FieldName::KoalaBear4 => "koalabear4",
+        FieldName::Goldilocks2 => "goldilocks2",
+    }
+}
+
 /// The name of the field that challenges are taken from.
 pub(crate) fn challenge_field(field: FieldName) -> &'static str {
     match field {

@@ -1,6 +1,6 @@
-//! Answers as JSON, one object on one line. Numbers that may be past 2^53 are texts.
+//! Answers as JSON, one object on one line. Numbers that may be past 2^53 are texts, but for rows and targets.
 use crate::bits::{Deceiving, FIELDS};
-use crate::fields::{TableField, challenge_field};
+use crate::fields::{TableField, field_name};
 use crate::page::Page;
 use crate::report::{AirReport, PlanReport, Report};
 use crate::sections::{Told, air_name};
@@ -27,6 +27,7 @@ struct AirsObject<'a> {
 #[derive(Drop, Serialize)]
 struct PlanObject<'a> {
     format: u32,
+    field: &'static str,
     airs: Vec<AirObject<'a>>,
     height_sum: String,
     characteristic: String,
@@ -41,6 +42,7 @@ struct PlanObject<'a> {
 #[derive(Drop, Serialize)]
 struct ReportObject<'a> {
     format: u32,
+    field: &'static str,
     airs: Vec<AirObject<'a>>,
     height_sum: String,
     characteristic: String,
@@ -170,6 +172,7 @@ pub(crate) fn push_plan_json(
     let alloc = page.alloc();
     let object = PlanObject {
         format: FORMAT,
+        field: field_name(told.field),
         airs: air_objects(alloc, told, &report.airs)?,
         height_sum: decimal(alloc, report.height_sum)?,
         characteristic: decimal(alloc, report.characteristic)?,
@@ -196,6 +199,7 @@ pub(crate) fn push_report_json<F: TableField>(
     }
     let object = ReportObject {
         format: FORMAT,
+        field: field_name(told.field),
         airs: air_objects(alloc, told, &plan.airs)?,
         height_sum: decimal(alloc, plan.height_sum)?,
         characteristic: decimal(alloc, plan.characteristic)?,
@@ -220,7 +224,7 @@ pub(crate) fn push_bits_json(
     let mut fields = Vec::new(alloc);
     for field in FIELDS {
         fields.push(FieldObject {
-            field: challenge_field(field),
+            field: field_name(field),
             bits: deceiving.bits_in(field),
         })?;
     }

@@ -56,8 +56,9 @@ impl Answer {
 /// `lookup_words::asked`.
 ///
 /// Writes the answer to `output`. If the run is refused, it writes why to `errors`, and nothing to
-/// `output`. The status is 0 if the answer is yes, 1 if it is no, and 2 if the run is refused or a
-/// write fails. The answer to `check` is whether all messages balance, to `plan` and `bits` whether
+/// `output`; so it does if the answer cannot be written, of which a part may be in `output`. The
+/// status is 0 if the answer is yes, 1 if it is no, and 2 if the run is refused or a write fails. The
+/// answer to `check` is whether all messages balance, to `plan` and `bits` whether
 /// as many bits are left as are wanted, to `accept` whether the witness is accepted, and to `any`
 /// whether any is; to the other commands it is yes.
 pub fn run<W: Write, E: Write>(
@@ -77,7 +78,7 @@ pub fn run<W: Write, E: Write>(
         × Ends W.contents answer (exit_status result) output.old output.new errors.old errors.new }
 {
     match answer_of(alloc, words, inputs) {
-        Ok(answer) => write_answer(&answer, output),
+        Ok(answer) => write_answer(&answer, output, errors),
         Err(refusal) => refuse(refusal, errors),
     }
 }
@@ -93,13 +94,14 @@ pub fn refuse<E: Write>(refusal: RunRefusal, errors: &mut E) -> ExitCode
     ExitCode::from(2)
 }
 
-/// Writes an answer to `output`.
-fn write_answer<W: Write>(answer: &Answer, output: &mut W) -> ExitCode
+/// Writes an answer to `output`, or to `errors` that it cannot be written.
+fn write_answer<W: Write, E: Write>(answer: &Answer, output: &mut W, errors: &mut E) -> ExitCode
     ensures { ((exit_status result ≡ cond answer.now.yes 0 1)
-        × Appends (W.contents output.old) (W.contents output.new) answer.now.text.items)
-        ⊎ (exit_status result ≡ 2) }
+        × Appends (W.contents output.old) (W.contents output.new) answer.now.text.items
+        × (errors.new ≡ errors.old)) ⊎ (exit_status result ≡ 2) }
 {
     if write_and_flush(answer.text.as_slice(), output).is_err() {
+        let _ = errors.write_all(b"error: the answer cannot be written\n");
         return ExitCode::from(2);
     }
     if answer.yes {

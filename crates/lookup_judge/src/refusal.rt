@@ -204,7 +204,7 @@ impl RunRefusal {
     }
 
     /// Why the lookups of the AIR with this number are refused: at a row of its table, where the
-    /// flags of a row are at fault, and else at its name.
+    /// flags or the denominators of a row are at fault, and else at its name.
     fn of_air(
         alloc: Global,
         file: &[u8],
@@ -213,12 +213,20 @@ impl RunRefusal {
         air: usize,
         error: &LookupError,
     ) -> Result<RunRefusal, AllocError> {
-        let (row, lookup, what) = match error {
+        let (row, lookup, which, what) = match error {
             LookupError::FlagNotBoolean { row, lookup } => {
-                (*row, *lookup, " is neither 0 nor 1 on this row\n")
+                (*row, *lookup, "a flag", " is neither 0 nor 1 on this row\n")
             }
             LookupError::FlagsNotExclusive { row, lookup } => {
-                (*row, *lookup, " is 1 on this row, and so is another one\n")
+                (
+                    *row,
+                    *lookup,
+                    "a flag",
+                    " is 1 on this row, and so is another one\n",
+                )
+            }
+            LookupError::VanishingDenominator { row, lookup } => {
+                (*row, *lookup, "a denominator", " is zero on this row\n")
             }
             other => {
                 let what = format!(in alloc; "{other}")?;
@@ -230,7 +238,9 @@ impl RunRefusal {
         page.shown(file_of(text, batch, air, false))?;
         page.word(":")?;
         page.number(row as u128 + 2)?;
-        page.word(": error: a flag of ")?;
+        page.word(": error: ")?;
+        page.word(which)?;
+        page.word(" of ")?;
         page.shown(file)?;
         page.word(":")?;
         page.number(line_of(text, batch, air, lookup) as u128)?;

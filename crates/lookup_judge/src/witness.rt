@@ -1,9 +1,8 @@
 //! The commands about witnesses.
 ghost use Rattle.std.specs.Prelude.{◌≡◌, IfOk, false, map, true};
 ghost use Rattle.lookup_files.specs.Files.{named_of};
-ghost use Rattle.lookup_judge.specs.Runs.{IsAcceptance, IsDecision, IsWitnessed};
-ghost use Rattle.lookup_model.specs.Batches.Witnesses.{results_of};
-ghost use Rattle.witness_text.specs.Lines.{witness_lines};
+ghost use Rattle.lookup_judge.specs.Runs.{IsAcceptance, IsAcceptanceTold, IsDecision, IsWitnessed, decision_line};
+ghost use Rattle.witness_text.specs.Lines.{IsTextOf};
 
 use crate::commands::Given;
 use crate::fault::JudgeFault;
@@ -77,7 +76,7 @@ fn witness_in<F: Field, EF: Challenge<F>>(
     file: &str,
     text: &[u8],
 ) -> Result<Witness<EF>, RunRefusal>
-    ensures { IfOk result (λ w. text.now ≡ witness_lines EF.text (results_of w)) }
+    ensures { IfOk result (IsTextOf EF.text text.now) }
 {
     match read_witness::<F, EF>(alloc, text) {
         Ok(witness) => Ok(witness),
@@ -88,7 +87,8 @@ fn witness_in<F: Field, EF: Challenge<F>>(
 
 /// The answer where a witness is accepted.
 fn accepted(alloc: Global) -> Result<Answer, RunRefusal>
-    ensures { IfOk result (λ answer. answer.yes ≡ true) }
+    ensures { IfOk result (λ answer. (answer.yes ≡ true)
+        × IsAcceptanceTold true answer.text.items) }
 {
     let mut page = Page::new(alloc);
     page.word("ACCEPTED: the witness satisfies all constraints, and its terminals sum to zero\n")?;
@@ -100,12 +100,13 @@ fn accepted(alloc: Global) -> Result<Answer, RunRefusal>
 
 /// The answer where it is not.
 fn not_accepted(alloc: Global, error: &BatchError) -> Result<Answer, RunRefusal>
-    ensures { IfOk result (λ answer. answer.yes ≡ false) }
+    ensures { IfOk result (λ answer. (answer.yes ≡ false)
+        × IsAcceptanceTold false answer.text.items) }
 {
     let mut page = Page::new(alloc);
+    let why = format!(in alloc; "{error}\n")?;
     page.word("NOT ACCEPTED: ")?;
-    page.word(format!(in alloc; "{error}")?.as_str())?;
-    page.word("\n")?;
+    page.word(why.as_str())?;
     Ok(Answer {
         text: page.bytes,
         yes: false,
@@ -136,7 +137,8 @@ pub(crate) fn any<F: TableField, EF: Challenge<F>>(
 
 /// The answer where some witness is accepted, or none.
 fn decided(alloc: Global, yes: bool) -> Result<Answer, RunRefusal>
-    ensures { IfOk result (λ answer. answer.yes ≡ yes) }
+    ensures { IfOk result (λ answer. (answer.yes ≡ yes)
+        × (answer.text.items ≡ decision_line yes)) }
 {
     let mut page = Page::new(alloc);
     page.word(if yes {

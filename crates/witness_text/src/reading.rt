@@ -1,7 +1,6 @@
 //! Text as a witness.
-ghost use Rattle.std.specs.Prelude.{◌≡◌, IfOk, length};
-ghost use Rattle.lookup_model.specs.Batches.Witnesses.{results_of};
-ghost use Rattle.witness_text.specs.Lines.{witness_lines};
+ghost use Rattle.std.specs.Prelude.{◌≡◌, IfOk, OnOk};
+ghost use Rattle.witness_text.specs.Lines.{IsPlainTrace, IsPlainlyShaped, IsTextOf};
 ghost use Rattle.witness_text.specs.declared.reading.WitnessFault.TheVariants.{Memory};
 
 use crate::writing::push_witness;
@@ -44,13 +43,9 @@ pub fn read_witness<F: Field, EF: Challenge<F>>(
     alloc: Global,
     text: &[u8],
 ) -> Result<Witness<EF>, WitnessFault>
-    ensures { IfOk result (λ w. (length w.aux.items ≡ length w.terminals.items)
-        × (text.now ≡ witness_lines EF.text (results_of w))) }
+    ensures { IfOk result (IsTextOf EF.text text.now) }
 {
     let witness = rows_of::<F, EF>(alloc, text)?;
-    if witness.aux.len() != witness.terminals.len() {
-        return Err(WitnessFault::Line(1));
-    }
     let mut again = String::new(alloc);
     push_witness(alloc, &mut again, &witness)?;
     if again.as_bytes() == text {
@@ -79,7 +74,9 @@ fn first_other_line(text: &[u8], other: &[u8]) -> usize {
 fn rows_of<F: Field, EF: Challenge<F>>(
     alloc: Global,
     text: &[u8],
-) -> Result<Witness<EF>, WitnessFault> {
+) -> Result<Witness<EF>, WitnessFault>
+    ensures { IfOk result IsPlainlyShaped }
+{
     let mut reading = Reading::new(alloc);
     let mut number = 0usize;
     for line in text.split(|byte| *byte == b'\n') {
@@ -113,7 +110,9 @@ struct AirLines<EF> {
 }
 
 impl<EF> Reading<EF> {
-    fn new(alloc: Global) -> Reading<EF> {
+    fn new(alloc: Global) -> Reading<EF>
+        ensures { IsPlainlyShaped result.witness }
+    {
         Reading {
             witness: Witness {
                 aux: Vec::new(alloc),
@@ -129,7 +128,10 @@ fn push_line<F: Field, EF: Challenge<F>>(
     alloc: Global,
     reading: &mut Reading<EF>,
     line: &[u8],
-) -> Result<bool, AllocError> {
+) -> Result<bool, AllocError>
+    requires { IsPlainlyShaped reading.old.witness }
+    ensures { OnOk result (IsPlainlyShaped reading.new.witness) }
+{
     if line.starts_with(b"air ") {
         finish_air(alloc, reading)?;
         reading.air = Some(AirLines {
@@ -142,6 +144,9 @@ fn push_line<F: Field, EF: Challenge<F>>(
     let Some(air) = &mut reading.air else {
         return Ok(false);
     };
+    if air.terminal.is_some() {
+        return Ok(false);
+    }
     if line.starts_with(b"terminal ") {
         return Ok(set_terminal::<F, EF>(air, &line[9..]));
     }
@@ -180,7 +185,10 @@ fn push_row<F: Field, EF: Challenge<F>>(
 }
 
 /// Moves the AIR that is being read to those before it.
-fn finish_air<EF: Drop>(alloc: Global, reading: &mut Reading<EF>) -> Result<(), AllocError> {
+fn finish_air<EF: Drop>(alloc: Global, reading: &mut Reading<EF>) -> Result<(), AllocError>
+    requires { IsPlainlyShaped reading.old.witness }
+    ensures { OnOk result (IsPlainlyShaped reading.new.witness) }
+{
     let Some(air) = reading.air.take() else {
         return Ok(());
     };
@@ -189,25 +197,18 @@ fn finish_air<EF: Drop>(alloc: Global, reading: &mut Reading<EF>) -> Result<(), 
         width,
         terminal,
     } = air;
-    let trace = match matrix_of(cells, width) {
-        Some(trace) => trace,
-        None => RowMajorMatrix::new(Vec::new(alloc), 0),
-    };
-    reading.witness.aux.push(trace)?;
-    reading.witness.terminals.push(terminal)?;
-    Ok(())
+    reading.witness.aux.push(matrix_of(alloc, cells, width))?;
+    reading.witness.terminals.push(terminal)
 }
 
-/// The matrix with these values in rows of this width, if they make whole rows.
-fn matrix_of<T: Drop>(values: Vec<T>, width: usize) -> Option<RowMajorMatrix<T>> {
-    let is_whole = if width == 0 {
-        values.is_empty()
+/// The matrix with these values in rows of this width; one without values, where they are none or make
+/// no whole rows.
+fn matrix_of<T: Drop>(alloc: Global, values: Vec<T>, width: usize) -> RowMajorMatrix<T>
+    ensures { IsPlainTrace result }
+{
+    if width > 0 && values.len() >= width && values.len() % width == 0 {
+        RowMajorMatrix::new(values, width)
     } else {
-        values.len() % width == 0
-    };
-    if is_whole {
-        Some(RowMajorMatrix::new(values, width))
-    } else {
-        None
+        RowMajorMatrix::new(Vec::new(alloc), 0)
     }
 }
