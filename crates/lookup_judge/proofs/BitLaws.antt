@@ -44,12 +44,18 @@ saturated_sum size sum most wanted few = elim (cases_lt most sum) [
 
 -- a target is met exactly if as many bits are left as it wants
 pub target_met : (field : FieldName) (target alphas : Option ℕ) (betas wanted more : ℕ) (met : Bool) → target ≡ Some wanted → alphas ≡ Some more
-    → IsTrue met ↔ (min (betas + more) (2 ^ 128 - 1) * 2 ^ wanted ≤ challenges_of field) → IsTrue met ↔ MeetsTarget (challenges_of field) target betas alphas
+    → IsTrue met ↔ ((wanted ≡ 0) ⊎ (min (betas + more) (2 ^ 128 - 1) * 2 ^ wanted ≤ challenges_of field)) → IsTrue met ↔ MeetsTarget (challenges_of field) target betas alphas
 target_met field target alphas betas wanted more met is there left =
     let both = saturated_sum (challenges_of field) (betas + more) (2 ^ 128 - 1) wanted (few_challenges field) in (
       λ t bits bits_are a a_is.
           let same_bits : wanted ≡ bits = cc (sym is ∙ bits_are) in
           let same_alphas : more ≡ a = cc (sym there ∙ a_is) in
-          subst (λ n. (betas + n) * 2 ^ bits ≤ challenges_of field) same_alphas (subst (λ n. (betas + more) * 2 ^ n ≤ challenges_of field) same_bits (both.0 (left.0 t))),
-      λ meets. left.1 (both.1 (meets wanted is more there)),
+          elim (left.0 t) [
+            | inl none ↦ inl (sym same_bits ∙ none)
+            | inr few ↦ inr (subst (λ n. (betas + n) * 2 ^ bits ≤ challenges_of field) same_alphas (subst (λ n. (betas + more) * 2 ^ n ≤ challenges_of field) same_bits (both.0 few)))
+          ],
+      λ meets. left.1 (elim (meets wanted is more there) [
+        | inl none ↦ inl none
+        | inr few ↦ inr (both.1 few)
+      ]),
     )
