@@ -79,10 +79,7 @@ fn rows_of<F: Field, EF: Challenge<F>>(
 {
     let mut reading = Reading::new(alloc);
     let mut number = 0usize;
-    for line in text.split(|byte| *byte == b'\n') {
-        if line.is_empty() {
-            break;
-        }
+    for line in &lines_of(alloc, text)? {
         number = number.saturating_add(1);
         if !push_line::<F, EF>(alloc, &mut reading, line)? {
             return Err(WitnessFault::Line(number));
@@ -90,6 +87,18 @@ fn rows_of<F: Field, EF: Challenge<F>>(
     }
     finish_air(alloc, &mut reading)?;
     Ok(reading.witness)
+}
+
+/// The lines of a text up to the first empty one, without their ends.
+fn lines_of(alloc: Global, text: &[u8]) -> Result<Vec<&[u8]>, AllocError> {
+    let mut lines = Vec::new(alloc);
+    for line in text.split(|byte| *byte == b'\n') {
+        if line.is_empty() {
+            break;
+        }
+        lines.push(line)?;
+    }
+    Ok(lines)
 }
 
 /// What is read of a witness so far.
@@ -198,7 +207,8 @@ fn finish_air<EF: Drop>(alloc: Global, reading: &mut Reading<EF>) -> Result<(), 
         terminal,
     } = air;
     reading.witness.aux.push(matrix_of(alloc, cells, width))?;
-    reading.witness.terminals.push(terminal)
+    reading.witness.terminals.push(terminal)?;
+    Ok(())
 }
 
 /// The matrix with these values in rows of this width; one without values, where they are none or make
