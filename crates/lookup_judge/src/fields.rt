@@ -45,11 +45,12 @@ impl TableField for F7 {
     }
 
     fn as_number(self) -> u64 {
-        let mut number = 0u32;
-        while number < 6 && F7::new(number) != self {
-            number += 1;
+        for number in 0..6u32 {
+            if F7::new(number) == self {
+                return u64::from(number);
+            }
         }
-        u64::from(number)
+        6
     }
 }
 
