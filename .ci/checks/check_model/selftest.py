@@ -4,7 +4,7 @@ import collections
 import shutil
 
 from . import batches, showing, telling, texts
-from .reading import FIELDS
+from .fields import FIELDS
 from .running import Answer, differences, room, unlawful, written
 from .texts import REFUSED, long_faults, memory_faults
 
@@ -58,7 +58,7 @@ MEMORY = [
     ([(OUT, MET), (OUT, LAST)], 1),
 ]
 
-(SIZE, _), *_ = FIELDS.values()
+SIZE = FIELDS[b"babybear4"].characteristic
 # How many bits are left of the extension, reckoned apart: its size is 2013265921^4, just below 2^123.63.
 BITS = [((0, 1), 123), ((1, 1), 122), ((57, 39), 117), ((SIZE**4, 0), 0), ((SIZE**4, 1), 0), ((SIZE**5, 0), 0)]
 

@@ -1,6 +1,7 @@
 """What `show` writes, read again: each message has to mean on each row what the text says."""
 from . import counting, meaning
-from .reading import Fault, Reader, ask, batch_of
+from .fields import ask
+from .reading import Fault, Reader, batch_of
 
 TITLES = ["lookup", "line", "bus", "tuple", "counts", "when", "weight"]
 RIGHT = {"lookup", "line", "weight"}

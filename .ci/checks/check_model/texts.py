@@ -26,8 +26,7 @@ def modelled(folder, words):
     before = os.getcwd()
     os.chdir(folder)
     try:
-        found = answer(words) if words else None
-        return found and Answer(*found)
+        return answer(words) if words else None
     finally:
         os.chdir(before)
 
