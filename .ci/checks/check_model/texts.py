@@ -1,60 +1,17 @@
 """Texts over which the program is run: the cases, random batches, and hostile ones."""
-import functools
-import os
 import subprocess
-from importlib import machinery, util
 
 from refused_memory.program import REFUSED
 from refused_memory.runs import swept
 
 from . import batches, showing
-from .model import answer
+from .comparing import TOP, bytes_of, cases, compared, modelled, run_compared, wanted_of
 from .running import FILE, Answer, answer_of, differences, limit, room, unlawful, written
 
-TOP = os.path.dirname(os.path.dirname(os.path.dirname(os.path.dirname(os.path.realpath(__file__)))))
 EXAMPLE = "examples/memory/memory.lookups"
 TABLES = ("accesses.csv", "boundary.csv", "gaps.csv")
 
-
-def bytes_of(path):
-    with open(f"{TOP}/{path}", "rb") as file:
-        return file.read()
-
-
-def modelled(folder, words):
-    """What the model answers in a folder."""
-    before = os.getcwd()
-    os.chdir(folder)
-    try:
-        return answer(words) if words else None
-    finally:
-        os.chdir(before)
-
-
-def compared(program, folder, what, files, words=("check",)):
-    """The faults of a run over these files, one of which is the batch, by the model."""
-    written(folder, files)
-    words = [*map(str.encode, words), FILE.encode()]
-    wanted, found = modelled(folder, words), answer_of(program, words, folder)
-    return [f"{what}: {it}" for it in differences(wanted, found)]
-
-
 # --- cases ---
-
-
-@functools.cache
-def cases():
-    """The runs of cases/check, each with its place and the answer that it has to give."""
-    loader = machinery.SourceFileLoader("run_cases", f"{TOP}/tools/run-cases")
-    module = util.module_from_spec(util.spec_from_loader("run_cases", loader))
-    loader.exec_module(module)
-    names = sorted(os.listdir(f"{TOP}/cases/check"))
-    found = [(name, *it) for name in names for it in module.cases_of(f"{TOP}/cases/check/{name}")]
-    return [(f"{name}:{place}", case, status) for name, place, case, status in found]
-
-
-def wanted_of(case, status):
-    return Answer(status, case.output, case.errors)
 
 
 def cases_swept(program):
@@ -63,7 +20,7 @@ def cases_swept(program):
     for place, case, status in cases():
         wanted, by_model = wanted_of(case, status), modelled(TOP, case.words)
         count += 1 + (by_model is not None)
-        faults += [f"{place}: model: {it}" for it in differences(wanted, by_model or wanted)]
+        faults += [f"{place}: not by the model: {it}" for it in differences(by_model or wanted, wanted)]
         faults += [f"{place}: {it}" for it in differences(wanted, answer_of(program, case.words, TOP))]
     return count, faults, {}
 
@@ -80,8 +37,8 @@ def random_swept(program, seeds):
     faults, statuses = [], []
     with room() as folder:
         for seed in seeds:
-            text, files = batches.batch_of_seed(seed)
             words = batches.words_of_seed(seed)
+            text, files = batches.batch_of_seed(seed, batches.field_in(words))
             faults += compared(program, folder, f"seed {seed}, {' '.join(words)}", {**files, FILE: text}, words)
             if words == ["check"]:
                 statuses.append(modelled(folder, [b"check", FILE.encode()]).status)
@@ -289,8 +246,7 @@ def files_swept(program):
             text = b'air x {\n trace "%s"\n query m(a)\n}\n' % name
             faults += compared(program, folder, f"file {name!r}", {FILE: text, "t.csv": b"a\n1\n"})
         for words in map(bytes.split, WORDS):
-            wanted, found = modelled(folder, words), answer_of(program, words, folder)
-            faults += [f"words {words}: {it}" for it in differences(wanted, found)]
+            faults += run_compared(program, folder, words)
         for words in [*map(bytes.split, ODD_WORDS), [b"check", b""], [b"check", b"\xff"], [b"\xff"]]:
             faults += [f"words {words}: {it}" for it in unlawful(answer_of(program, words, folder))]
         endless = query("a").replace("t.csv", "/dev/zero").encode()
