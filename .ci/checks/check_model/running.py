@@ -36,7 +36,7 @@ def written(folder, files):
     for name in os.listdir(folder):
         os.remove(os.path.join(folder, name))
     for name, content in files.items():
-        with open(os.path.join(folder, name), "wb") as file:
+        with open(os.path.join(os.fsencode(folder), os.fsencode(name)), "wb") as file:
             file.write(content)
 
 

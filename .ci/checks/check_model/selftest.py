@@ -3,8 +3,8 @@ the one that is wanted."""
 import collections
 import shutil
 
-from . import batches, showing, telling, texts
-from .fields import FIELDS
+from . import batches, option_texts, selftest_more, showing, telling, texts, witness_texts
+from .fields import FIELDS, ask
 from .running import Answer, differences, room, unlawful, written
 from .texts import REFUSED, long_faults, memory_faults
 
@@ -64,10 +64,11 @@ BITS = [((0, 1), 123), ((1, 1), 122), ((57, 39), 117), ((SIZE**4, 0), 0), ((SIZE
 
 
 def counted(what, found, wanted):
-    return [] if found == wanted else [f"{what}: {found} faults, and not {wanted}"]
+    return [] if found == wanted else [f"{what}: {found}, and not {wanted}"]
 
 
 def of_answers():
+    ask()
     for wanted, found, count in DIFFERENT:
         yield from counted(f"differences of {found}", len(list(differences(wanted, found))), count)
     for found, count in UNLAWFUL:
@@ -88,6 +89,9 @@ def of_programs():
         yield from counted(f"{name}, small tables", len(faults), count)
         count, faults, _ = texts.long_swept(program, 0)
         yield from counted(f"{name}, a long text", min(1, len(faults)), count)
+        for swept in (option_texts.names_swept, witness_texts.numbers_swept):
+            count, faults, _ = swept(program)
+            yield from counted(f"{name}, {swept.__name__}", len(faults), count)
         _, faults, _ = texts.cases_swept(program)
         yield from counted(f"{name}, cases", len(faults), len(texts.cases()))
 
@@ -133,7 +137,8 @@ def of_batches():
 
 def judge_itself():
     """Tests the judge. Returns the status."""
-    faults = [*of_answers(), *of_programs(), *of_shown(), *of_batches()]
+    more = [it for row in selftest_more.rows() for it in counted(*row)]
+    faults = [*of_answers(), *of_programs(), *of_shown(), *of_batches(), *more]
     for fault in faults:
         print(f"check_texts --judge: {fault}")
     print(f"check_texts --judge: {len(faults)} faults of the judge")

@@ -4,7 +4,7 @@ import subprocess
 from refused_memory.program import REFUSED
 from refused_memory.runs import swept
 
-from . import batches, showing
+from . import batches, option_texts, showing, witness_texts
 from .comparing import TOP, bytes_of, cases, compared, modelled, run_compared, wanted_of
 from .running import FILE, Answer, answer_of, differences, limit, room, unlawful, written
 
@@ -234,7 +234,7 @@ FILES = [
 WORDS = [b"check none", b"check .", b"check /dev/null", b"check t.csv", b"check x/", b"plan none", b"pack . --degree 2"]
 ODD_WORDS = [
     b"", b"check", b"judge batch", b"check a b", b"check --limit", b"check --limit x t.csv", b"bits", b"help", b"--help",
-    b"plan", b"pack t.csv", b"check --limit 0 t.csv", b"check --degree 0 t.csv", b"check --field f7 t.csv",
+    b"plan", b"pack t.csv", b"check --limit 0 t.csv", b"check --degree 0 t.csv", b"check --field f8 t.csv",
 ]  # fmt: skip
 
 
@@ -282,20 +282,27 @@ def streams_swept(program):
 
 # How many faults of such a run are told.
 FEW = 3
-SWEPT = (EXAMPLE, "examples/errors/column.lookups", "examples/errors/number.lookups")
+FIRST = "examples/first/first.lookups --field f7 --alpha 5 --beta 2"
+SWEPT = [
+    f"check {EXAMPLE}", "check examples/errors/column.lookups", "check examples/errors/number.lookups", f"witness {FIRST}",
+    f"accept {FIRST} --witness examples/first/witness.txt", f"any {FIRST}", "bits --messages 1000 --width 3 --json",
+    "check examples/first/unbalanced.lookups --field f7 --json", "plan examples/range/range.lookups --target 101",
+]  # fmt: skip
 
 
-def memory_swept(program, shim, file, later):
+def memory_swept(program, shim, run, later):
     """Each request for memory of a run refused: alone, or with all that come after it."""
-    (wanted,) = [wanted_of(case, status) for _, case, status in cases() if case.words == [b"check", file.encode()]]
-    ample, *runs = swept(shim, program, ["check", f"{TOP}/{file}"], later=later)
+    words = run.encode().split()
+    (wanted,) = [wanted_of(case, status) for _, case, status in cases() if case.words == words]
+    rooted = [f"{TOP}/{word}" if word.startswith("examples/") else word for word in run.split()]
+    ample, *runs = swept(shim, program, rooted, later=later)
     # the place of a refusal has the name of the file
     shown = lambda ran: Answer(ran.status, ran.output, ran.errors.replace(f"{TOP}/".encode(), b""))  # noqa: E731
     faults = [f"with all memory: {it}" for it in differences(wanted, shown(ample))]
     faults += [f"{ample.live} blocks are not freed"] if ample.live else []
     faults += memory_faults(wanted, [(shown(it), it) for it in runs])
     more = [f"and {len(faults) - FEW} more faults of this run"] if len(faults) > FEW else []
-    return len(runs), [f"{file}: {it}" for it in faults[:FEW] + more], {}
+    return len(runs), [f"{run}: {it}" for it in faults[:FEW] + more], {}
 
 
 def memory_faults(wanted, runs):
@@ -312,15 +319,17 @@ def memory_faults(wanted, runs):
 
 def tasks(program, shim):
     """What there is to run, the longest first: its name, the call and its words."""
-    for file in SWEPT:
+    for run in SWEPT:
         for later in (False, True):
-            yield "memory refused", memory_swept, program, shim, file, later
+            yield "memory refused", memory_swept, program, shim, run, later
     for place in range(len(LONG + LONG_TABLES)):
         yield "long texts", long_swept, program, place
     for part in range(PARTS):
         yield "random batches", random_swept, program, range(part, SEEDS, PARTS)
     for part in range(CHANGED_PARTS):
         yield "changed texts", changed_swept, program, FILE, part
+    yield from witness_texts.tasks(program)
+    yield from option_texts.tasks(program)
     for name in (FILE, "gaps.csv"):
         yield "cut texts", cut_swept, program, name
     for part in range(CHANGED_PARTS):

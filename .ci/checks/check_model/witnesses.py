@@ -194,14 +194,14 @@ def read_line(parts, line):
 
 
 def is_odd(part):
-    """Whether the last line of an AIR's part makes it one that no batch has: rows of two lengths."""
-    return len(part.rows) > 1 and len(part.rows[-1]) != len(part.rows[0])
+    """Whether the last line makes an AIR's part one that no batch has: a row of another length than the first."""
+    return not part.terminal and len(part.rows) > 1 and len(part.rows[-1]) != len(part.rows[0])
 
 
 def is_odd_at_end(part):
     """Whether the part is one that no batch has, as it ends: without rows, or with columns and no terminal, or with
     none and a terminal, or with accumulators alone."""
-    return not part.rows or any(part.rows) != bool(part.terminal) or any(len(row) == 1 for row in part.rows)
+    return not part.rows or any(part.rows) != bool(part.terminal) or len(part.rows[0]) == 1
 
 
 def read(text):
@@ -216,10 +216,10 @@ def read(text):
             odd += [number - 1, number]
         if is_odd(parts[-1]):
             odd.append(number)
-    if parts and is_odd_at_end(parts[-1]):
-        odd += [len(lines), len(lines) + 1]
     if rest:
         raise WitnessFault([*odd, len(lines) + 1], False)
+    if parts and is_odd_at_end(parts[-1]):
+        odd += [len(lines), len(lines) + 1]
     if odd:
         raise WitnessFault(odd, True)
     return [Part(part.rows, part.terminal[0] if part.terminal else None) for part in parts]
