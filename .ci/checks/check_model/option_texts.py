@@ -31,7 +31,10 @@ def json_swept(program, seeds):
 
 
 # Names that need care in JSON: of an AIR, of a bus and of a file.
-NAMES = [b'a\\"b', b"\x01\x1f\x7f", b"\t\r", "é\U0001f600\u2028".encode(), b"\xff", b"\xed\xa0\x80", b"</script>", b"\\u0041", b"/"]
+NAMES = [
+    b'a\\"b', b"\x01\x1f\x7f", b"\t\r", "é\U0001f600\u2028".encode(), b"\xff", b"\xed\xa0\x80", b"</script>",
+    b"\\u0041", b"/",
+]  # fmt: skip
 
 
 def names_swept(program):
@@ -114,9 +117,10 @@ def targets_swept(program):
 
 STEP = re.compile(rb"lookup-check: [0-9]+\.[0-9]{3} s: [^\n]+\n")
 STEPS_OF = [
-    b"check examples/memory/memory.lookups", b"check examples/first/unbalanced.lookups --json", b"check examples/none.lookups",
-    b"check examples/errors/column.lookups", b"check examples/errors/flags.lookups", b"plan examples/range/range.lookups",
-    b"plan examples/memory/memory.lookups --target 118", b"pack examples/cpu/cpu.lookups --degree 4", b"check examples/errors/number.lookups",
+    b"check examples/memory/memory.lookups", b"check examples/first/unbalanced.lookups --json",
+    b"check examples/none.lookups", b"check examples/errors/column.lookups", b"check examples/errors/flags.lookups",
+    b"plan examples/range/range.lookups", b"plan examples/memory/memory.lookups --target 118",
+    b"pack examples/cpu/cpu.lookups --degree 4", b"check examples/errors/number.lookups",
     b"pack examples/memory/memory.lookups --degree 3 --json", b"check examples/cpu/cpu.lookups --field goldilocks2",
     b"witness examples/first/first.lookups --field f7 --alpha 5 --beta 2",
     b"any examples/first/first.lookups --field f7 --alpha 1 --beta 2",

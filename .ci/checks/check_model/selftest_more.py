@@ -208,7 +208,7 @@ TOLD = [
     (STEPS[:-1], 1),
 ]
 WITNESS = witness_texts.WITNESS_TEXT
-# A run that should have written a witness to a file, whether that can be, what the file has, and how many faults it has.
+# A run that should have written a witness to a file, whether that can be, what the file has, and its faults.
 OUT = [
     (Answer(0, b"", b""), True, WITNESS, 0),
     (Answer(0, b"", b""), True, WITNESS[:-1], 1),

@@ -159,8 +159,8 @@ OFTEN = b"UNBALANCED on m: (1) is sent or queried too often, by 100,000\n"
 NAME = "n" * MEGABYTE
 TRACED = 'air x{} {{\n trace "t.csv"\n query m(a)\n}}\n'
 # Long texts over a table whose one row is a = 1: a name, how the text is made, the status, and a part of what is
-# written then. In a chain the definition of number N has 2 N + 1 nodes, so 1,024 of them take all the room; where each is the
-# square of the one before, the first 19 of them take all but 21 nodes of it.
+# written then. In a chain the definition of number N has 2 N + 1 nodes, so 1,024 of them take all the room; where each
+# is the square of the one before, the first 19 of them take all but 21 nodes of it.
 LONG = [
     ("a long comment", lambda: air("#" * MEGABYTE, "query m(a)"), 1, b""),
     ("a long line of blanks", lambda: air(" " * MEGABYTE + "query m(a)"), 1, b""),
@@ -233,8 +233,8 @@ FILES = [
 # Words that the model has, and words of which only the way in which the program ends is looked at.
 WORDS = [b"check none", b"check .", b"check /dev/null", b"check t.csv", b"check x/", b"plan none", b"pack . --degree 2"]
 ODD_WORDS = [
-    b"", b"check", b"judge batch", b"check a b", b"check --limit", b"check --limit x t.csv", b"bits", b"help", b"--help",
-    b"plan", b"pack t.csv", b"check --limit 0 t.csv", b"check --degree 0 t.csv", b"check --field f8 t.csv",
+    b"", b"check", b"judge batch", b"check a b", b"check --limit", b"check --limit x t.csv", b"bits", b"help",
+    b"--help", b"plan", b"pack t.csv", b"check --limit 0 t.csv", b"check --degree 0 t.csv", b"check --field f8 t.csv",
 ]  # fmt: skip
 
 
@@ -284,9 +284,10 @@ def streams_swept(program):
 FEW = 3
 FIRST = "examples/first/first.lookups --field f7 --alpha 5 --beta 2"
 SWEPT = [
-    f"check {EXAMPLE}", "check examples/errors/column.lookups", "check examples/errors/number.lookups", f"witness {FIRST}",
-    f"accept {FIRST} --witness examples/first/witness.txt", f"any {FIRST}", "bits --messages 1000 --width 3 --json",
-    "check examples/first/unbalanced.lookups --field f7 --json", "plan examples/range/range.lookups --target 101",
+    f"check {EXAMPLE}", "check examples/errors/column.lookups", "check examples/errors/number.lookups",
+    f"witness {FIRST}", f"accept {FIRST} --witness examples/first/witness.txt", f"any {FIRST}",
+    "bits --messages 1000 --width 3 --json", "check examples/first/unbalanced.lookups --field f7 --json",
+    "plan examples/range/range.lookups --target 101",
 ]  # fmt: skip
 
 

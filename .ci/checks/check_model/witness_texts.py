@@ -5,7 +5,7 @@ import re
 
 from . import batches, counting, meaning, model, reading, witnesses
 from .comparing import bytes_of, modelled, run_compared
-from .fields import ASKED, FIELDS, ask, minus, of
+from .fields import ASKED, FIELDS, ask, minus, of, plus
 from .running import FILE, answer_of, differences, room, unlawful, written
 
 WITNESS = "witness.txt"
@@ -60,7 +60,23 @@ def made_witness(equations):
     if made is None:
         fraction = lambda it: witnesses.fraction_of(it) if any(it.denominator) else of(1)  # noqa: E731
         made = [witnesses.summed([list(map(fraction, row)) for row in rows]) for rows in equations]
-    return witnesses.text_of(made)
+    return made
+
+
+def forged(draw, parts):
+    """A witness in which something is added and taken away again: from the first accumulator on, or within a row."""
+    parts = [part._replace(rows=[list(row) for row in part.rows]) for part in parts]
+    by, places = element(draw), [place for place, part in enumerate(parts) if part.terminal]
+    if draw.random() < 0.5:
+        for place, shift in zip(draw.sample(places, min(2, len(places))), (by, minus(of(0), by))):
+            part = parts[place]
+            for row in part.rows:
+                row[0] = plus(row[0], shift)
+            parts[place] = part._replace(terminal=plus(part.terminal, shift))
+    else:
+        row = draw.choice(parts[draw.choice(places)].rows)
+        row[1], row[-1] = plus(row[1], by), minus(row[-1], by)
+    return witnesses.text_of(parts)
 
 
 NUMBER = re.compile(rb"\d+")
@@ -72,12 +88,12 @@ def changed(draw, text):
     place = draw.randrange(len(lines))
     words = lines[place].split(b" ")
     how = draw.random()
-    if how < 0.7 and (spans := [it.span() for it in NUMBER.finditer(text)]):
+    if how < 0.8 and (spans := [it.span() for it in NUMBER.finditer(text)]):
         start, end = draw.choice(spans)
         return text[:start] + b"%d" % number(draw) + text[end:]
-    if how < 0.8:
+    if how < 0.87:
         lines[place : place + 1] = draw.choice([[], [lines[place]] * 2])
-    elif how < 0.9:
+    elif how < 0.95:
         lines[place] = b" ".join(draw.choice([words[:-1], words + words[-1:], words[::-1]]))
     else:
         lines = lines[: draw.choice([place, -1])] + draw.choice([[b""], [b"air 1"], [b"terminal 0"], lines])
@@ -85,16 +101,22 @@ def changed(draw, text):
 
 
 def runs_of_seed(draw, folder, field, text):
-    """The words of the runs over a batch that is written, each with the witness that is read, if one is."""
+    """The words of the runs over a batch that is written, each with the witness that is read, if one is. Batches that
+    are refused, or have no lookups, are seldom run."""
     airs = airs_in(folder, text)
+    if not (airs and any(air.lookups for air in airs)) and draw.random() < 0.8:
+        return []
     alpha, beta = challenges(draw, airs)
     pair = [b"--alpha", witnesses.element_text(alpha), b"--beta", witnesses.element_text(beta)]
     words = [*pair, b"--field", field, FILE.encode()]
     accept = [b"accept", *words, b"--witness", WITNESS.encode()]
     if airs is None:
         return [draw.choice([([b"witness", *words], None), ([b"any", *words], None), (accept, b"")])]
-    made = made_witness(witnesses.equations_of(airs, alpha, beta))
-    return [([b"witness", *words], None), ([b"any", *words], None), (accept, made), (accept, changed(draw, made))]
+    parts = made_witness(witnesses.equations_of(airs, alpha, beta))
+    made = witnesses.text_of(parts)
+    is_forged = draw.random() < 0.3 and any(part.terminal for part in parts)
+    wrong = forged(draw, parts) if is_forged else changed(draw, made)
+    return [([b"witness", *words], None), ([b"any", *words], None), (accept, made), (accept, wrong)]
 
 
 def witnesses_swept(program, seeds):
@@ -129,11 +151,13 @@ FIRST_FILES = ("first.lookups", "rows.csv", "witness.txt")
 ONE = {b"f7": b"1", b"babybear4": b"1,0,0,0", b"koalabear4": b"1,0,0,0", b"goldilocks2": b"1,0"}
 # Challenges in each field. Python takes digits of other alphabets for numbers.
 CHALLENGES = {
-    b"f7": [b"7", b"07", b"006", b"x", b"1,", b",1", b"1,0", b"13", b"1 ", b" 1", b"+1", b"1.0", b"0x1", b"1e0", b"1_0"],
+    b"f7": [
+        b"7", b"07", b"006", b"x", b"1,", b",1", b"1,0", b"13", b"1 ", b" 1", b"+1", b"1.0", b"0x1", b"1e0", b"1_0",
+    ],
     b"babybear4": [
-        b"1", b"1,2,3", b"1,2,3,4,5", b"1,2,3,", b"1,,3,4", b"1,2,3,2013265921", b"1,2,3,2013265920", b"4294967296,0,0,0",
-        b"18446744073709551616,0,0,0", b"1;2;3;4", b"1 2 3 4", b"0001,02,3,4", b"1,2,3,4,", b"0" * 100_000 + b"1,2,3,4",
-        b"1,2,3," + b"9" * 100_000, "1,2,3,４".encode(), "1,2,3,²".encode(),
+        b"1", b"1,2,3", b"1,2,3,4,5", b"1,2,3,", b"1,,3,4", b"1,2,3,2013265921", b"1,2,3,2013265920",
+        b"4294967296,0,0,0", b"18446744073709551616,0,0,0", b"1;2;3;4", b"1 2 3 4", b"0001,02,3,4", b"1,2,3,4,",
+        b"0" * 100_000 + b"1,2,3,4", b"1,2,3," + b"9" * 100_000, "1,2,3,４".encode(), "1,2,3,²".encode(),
     ],
     b"koalabear4": [b"2130706433,0,0,0", b"2130706432,2013265921,0,0", b"1"],
     b"goldilocks2": [
@@ -145,12 +169,14 @@ CHALLENGES = {
 ODD_WORDS = [
     b"witness", b"accept", b"any", b"witness FILE", b"witness FILE --alpha 1", b"accept FILE --alpha 1 --beta 1",
     b"any FILE --alpha 1 --beta", b"any FILE --alpha -1 --beta 1", b"any FILE --alpha=-1 --beta 1", b"bits --json",
-    b"any FILE --alpha 1 --alpha 1 --beta 1", b"any FILE --alpha 1 --beta 1 --witness W", b"bits --messages 9 --progress",
-    b"witness FILE --alpha 1 --beta 1 --json", b"check FILE --target 9", b"plan FILE --target x", b"check FILE --out W",
-    b"plan FILE --target -1", b"plan FILE --target 18446744073709551616", b"bits --messages 5 --target", b"plan --json",
+    b"any FILE --alpha 1 --alpha 1 --beta 1", b"any FILE --alpha 1 --beta 1 --witness W",
+    b"bits --messages 9 --progress", b"witness FILE --alpha 1 --beta 1 --json", b"check FILE --target 9",
+    b"plan FILE --target x", b"check FILE --out W", b"plan FILE --target -1",
+    b"plan FILE --target 18446744073709551616", b"bits --messages 5 --target", b"plan --json",
     b"bits --messages 18446744073709551616 --json", b"bits --messages 5 --field f8", b"check --json --json FILE",
     b"show FILE --json --json", b"check FILE --progress --progress", b"witness FILE --alpha 1 --beta 1 --out",
-    b"accept FILE --alpha 1 --beta 1 --witness", b"check --json=1 FILE", b"check --field F7 FILE", b"check --field f7,f7",
+    b"accept FILE --alpha 1 --beta 1 --witness", b"check --json=1 FILE", b"check --field F7 FILE",
+    b"check --field f7,f7",
 ]  # fmt: skip
 
 
@@ -171,7 +197,8 @@ def words_swept(program):
             faults += run_compared(program, folder, words, f"field {field}, {file}, challenge {challenge[-60:]}")
         named = {b"FILE": b"first.lookups", b"W": b"witness.txt"}
         odd = [[named.get(word, word) for word in words.split()] for words in ODD_WORDS]
-        odd += [[b"any", b"first.lookups", b"--alpha", it, b"--beta", b"1,0,0,0"] for it in (b"", b"\xff", b"\n", b"1,2,3,\xff")]
+        pair = [b"--beta", b"1,0,0,0", b"--alpha"]
+        odd += [[b"any", b"first.lookups", *pair, it] for it in (b"", b"\xff", b"\n", b"1,2,3,\xff")]
         for words in odd:
             faults += [f"words {words}: {it}" for it in unlawful(answer_of(program, words, folder))]
     return count + len(odd), faults, {}
@@ -183,24 +210,29 @@ MANY, MEGABYTE = 50_000, 1_000_000
 BYTES = b"0 \n,7a\r-\xff"
 # Texts in place of the witness of examples/first: parts of it that are otherwise, and whole ones.
 PARTS = [
-    (b"\n", b"\r\n"), (b"4 3\n", b"4 3\r\n"), (b"0 4", b"0 04"), (b"0 4", b"00 4"), (b"0 4", b"0  4"), (b"0 4", b" 0 4"),
-    (b"0 4", b"0 4 "), (b"0 4", b"0\t4"), (b"0 4", b"0,4"), (b"0 4", b"0 4,0"), (b"0 4", b"0 11"), (b"0 4", b"0 -3"),
-    (b"0 4", b"-0 4"), (b"0 4", b"+0 4"), (b"air 0", b"air 00"), (b"air 0", b"air 1"), (b"air 0", b"Air 0"),
-    (b"air 0", b"air"), (b"air 0", b"air  0"), (b"air 0", b" air 0"), (b"air 0", b"air 0 "), (b"air 0\n", b""),
-    (b"air 0\n", b"\nair 0\n"), (b"air 0\n", b"air 0\n\n"), (b"air 0\n", b"air 0\nair 0\n"), (b"air 0\n", b"air 0\nair 1\n"),
-    (b"air 0\n", b"\xef\xbb\xbfair 0\n"), (b"air 0\n", b"air 18446744073709551616\n"), (b"air 0\n", b"# first\nair 0\n"),
-    (b"0 4\n", b""), (b"4 3\n", b""), (b"0 4\n4 3\n", b""), (b"0 4\n", b"0 4\n0 4\n"), (b"4 3\n", b"4 3\n\n"), (b"4 3\n", b"4 3\n0 0\n"),
-    (b"0 4\n", b"0 4 0\n"), (b"4 3\n", b"4 3 0\n"), (b"4 3\n", b"4\n"), (b"0 4\n4 3\n", b"0\n4\n"), (b"0 4\n4 3\n", b"\n\n"),
-    (b"0 4\n4 3\n", b"0 4 0\n4 3 0\n"), (b"0 4\n4 3\n", b"4 3\n0 4\n"), (b"0 4", b"1 4"), (b"4 3", b"4 4"), (b"4 3", b"5 3"),
-    (b"terminal 0\n", b""), (b"terminal 0\n", b"terminal\n"), (b"terminal 0\n", b"terminal \n"), (b"l 0\n", b"l 1\n"),
-    (b"l 0\n", b"l 7\n"), (b"l 0\n", b"l 00\n"), (b"l 0\n", b"l  0\n"), (b"l 0\n", b"l 0 0\n"), (b"l 0\n", b"l 0"),
+    (b"\n", b"\r\n"), (b"4 3\n", b"4 3\r\n"), (b"0 4", b"0 04"), (b"0 4", b"00 4"), (b"0 4", b"0  4"),
+    (b"0 4", b" 0 4"), (b"0 4", b"0 4 "), (b"0 4", b"0\t4"), (b"0 4", b"0,4"), (b"0 4", b"0 4,0"), (b"0 4", b"0 11"),
+    (b"0 4", b"0 -3"), (b"0 4", b"-0 4"), (b"0 4", b"+0 4"), (b"air 0", b"air 00"), (b"air 0", b"air 1"),
+    (b"air 0", b"Air 0"), (b"air 0", b"air"), (b"air 0", b"air  0"), (b"air 0", b" air 0"), (b"air 0", b"air 0 "),
+    (b"air 0\n", b""), (b"air 0\n", b"\nair 0\n"), (b"air 0\n", b"air 0\n\n"), (b"air 0\n", b"air 0\nair 0\n"),
+    (b"air 0\n", b"air 0\nair 1\n"), (b"air 0\n", b"\xef\xbb\xbfair 0\n"), (b"air 0\n", b"air 18446744073709551616\n"),
+    (b"air 0\n", b"# first\nair 0\n"), (b"0 4\n", b""), (b"4 3\n", b""), (b"0 4\n4 3\n", b""),
+    (b"0 4\n", b"0 4\n0 4\n"), (b"4 3\n", b"4 3\n\n"), (b"4 3\n", b"4 3\n0 0\n"), (b"0 4\n", b"0 4 0\n"),
+    (b"4 3\n", b"4 3 0\n"), (b"4 3\n", b"4\n"), (b"0 4\n4 3\n", b"0\n4\n"), (b"0 4\n4 3\n", b"\n\n"),
+    (b"0 4\n4 3\n", b"0 4 0\n4 3 0\n"), (b"0 4\n4 3\n", b"4 3\n0 4\n"), (b"0 4", b"1 4"), (b"4 3", b"4 4"),
+    (b"4 3", b"5 3"), (b"0 4\n4 3\nterminal 0\n", b"1 4\n5 3\nterminal 1\n"), (b"terminal 0\n", b""),
+    (b"terminal 0\n", b"terminal\n"), (b"terminal 0\n", b"terminal \n"), (b"l 0\n", b"l 1\n"), (b"l 0\n", b"l 7\n"),
+    (b"l 0\n", b"l 00\n"), (b"l 0\n", b"l  0\n"), (b"l 0\n", b"l 0 0\n"), (b"l 0\n", b"l 0"),
     (b"l 0\n", b"l 0\nterminal 0\n"), (b"l 0\n", b"l 0\n\n"), (b"l 0\n", b"l 0\nx"), (b"l 0\n", b"l 0\n0 4\n"),
     (b"l 0\n", b"l 0\nair 1\n"), (b"l 0\n", b"l 0\nair 1\n0 0\nterminal 0\n"), (b"l 0\n", b"l 0\nair 1\n\n"),
     (b"l 0\n", b"l 0\n\x00"), (b"l 0\n", b"l 0\nair 2\n"), (b"0 4", b"0 \x00"), (b"0 4", b"0 4\n" * MANY),
     (b"0 4", b"0 " + b"0" * MEGABYTE), (b"0 4", b"0 " + b"9" * MEGABYTE), (b"0 4", b"0" + b" 0" * MANY),
     (b"0 4", b"0" + b",0" * MEGABYTE), (b"l 0\n", b"l 0" + b"\n" * MEGABYTE), (b"0 4", b" " * MEGABYTE),
 ]  # fmt: skip
-WHOLE = [b"", b"\n", b"\r\n", b"x", b"air 0", b"air 0\n", b"terminal 0\n", b"0\n", b"\x00" * 1000, b"air \n", b"\n" * MEGABYTE]
+WHOLE = [
+    b"", b"\n", b"\r\n", b"x", b"air 0", b"air 0\n", b"terminal 0\n", b"0\n", b"\x00" * 1000, b"air \n",
+    b"\n" * MEGABYTE,
+]  # fmt: skip
 
 
 def texts_in_place(text):
@@ -235,6 +267,10 @@ NUMBERS = [
 ]  # fmt: skip
 
 
+# Files in place of it.
+ODD_FILES = [b"none.txt", b".", b"/", b"first.lookups", b"rows.csv", b"witness.txt/", b"/dev/null", b"no/w.txt"]
+
+
 def numbers_swept(program):
     """Numbers in place of those of a witness over an extension, and files in place of it."""
     faults = []
@@ -245,9 +281,9 @@ def numbers_swept(program):
             for text in (plain.replace(b"0,0", word, 1), plain.replace(b"terminal 0,0", b"terminal " + word)):
                 written(folder, {**first_files(), "witness.txt": text})
                 faults += run_compared(program, folder, OVER_PAIRS, f"witness {text!r}")
-        for name in (b"none.txt", b".", b"/", b"first.lookups", b"rows.csv", b"witness.txt/", b"/dev/null", b"no/w.txt"):
+        for name in ODD_FILES:
             faults += run_compared(program, folder, [*OVER_PAIRS[:-1], name])
-    return 2 * len(NUMBERS) + 8, faults, {}
+    return 2 * len(NUMBERS) + len(ODD_FILES), faults, {}
 
 
 # --- files that are written ---
@@ -286,7 +322,7 @@ def out_faults(found, is_written, file):
 
 # --- all of them ---
 
-WITNESS_SEEDS, TEXT_PARTS = range(0, 240, 2), 2
+WITNESS_SEEDS, TEXT_PARTS = range(0, 320, 2), 2
 WITNESS_PARTS = 4
 
 

@@ -1,4 +1,4 @@
-"""Witnesses at a pair of challenges: the equations that they have to satisfy, their text, and whether one is accepted."""
+"""Witnesses at a pair of challenges: their equations, their text, and whether one is accepted."""
 import collections
 import re
 
