@@ -1,4 +1,4 @@
-"""The answers as JSON, targets and steps told: over random batches and the examples."""
+"""Fields, the answers as JSON, targets and steps told: over random batches and the examples."""
 import random
 import re
 
@@ -7,6 +7,44 @@ from .comparing import TOP, bytes_of, compared, modelled, run_compared
 from .fields import FIELDS, ask
 from .running import FILE, answer_of, differences, room, written
 from .telling import most_bits
+
+# --- fields ---
+
+ONE_ROW = b"air x {\n%s}\n"
+# Items of an AIR over each field, whose one row is a = 0: the weights and numbers around the characteristic P, and as
+# many ids as there are numbers in F7.
+ITEMS = [
+    b"query m(P)", b"query m(a) times P", b"query m(a) times a at most P", b"query m(a - 1)", b"query m(1 - P)",
+    *(b"query m(a) times a at most " + it for it in (b"5", b"6", b"7", b"LARGEST", b"18446744073709551615")),
+    b"query m(a) times a at most LARGEST\nquery m(a) times a at most 1", b"query m(a) times LARGEST at most 1",
+    b"query m(a)\nquery m(a) times a at most 18446744073709551615", b"exclusive {\nwhen 1 + P query m(a)\n}",
+    b"exclusive {\nwhen LARGEST query m(a)\n}", b"exclusive {\nwhen a query m(a)\nwhen 8 query m(1)\n}",
+    b"public p = P\nquery m(p)", b"let d = LARGEST\nquery m(d + 2) times d * d at most 1",
+    *(b"provide local(a)\n" * count for count in (6, 7, 8, 9)), b"provide m(a)\nprovide n(a)\n" + b"provide local(a)\n" * 6,
+]  # fmt: skip
+# Cells in place of the one of such a table.
+CELLS = [b"P", b"-P", b"LARGEST", b"-LARGEST", b"7", b"18446744073709551616", b"4294967296", b"-4294967295"]
+
+
+def filled(text, field):
+    most = FIELDS[field].characteristic
+    return text.replace(b"P", b"%d" % most).replace(b"LARGEST", b"%d" % (most - 1))
+
+
+def fields_swept(program):
+    """Numbers and weights around the characteristic of each field."""
+    faults, count = [], 0
+    with room() as folder:
+        for field in FIELDS:
+            tried = [(b'trace "t.csv"\n%s\n' % item, b"0") for item in ITEMS]
+            tried += [(b'trace "t.csv"\nquery m(a)\n', cell) for cell in CELLS]
+            for items, cell in tried:
+                files = {FILE: ONE_ROW % filled(items, field), "t.csv": b"a\n%s\n" % filled(cell, field)}
+                words = [["check"], ["plan"], ["check", "--json"]][count % 3] + ["--field", field.decode()]
+                faults += compared(program, folder, f"{field}, {items}, {cell}, {words}", files, words)
+                count += 1
+    return count, faults, {}
+
 
 # --- JSON ---
 
@@ -167,6 +205,7 @@ def steps_swept(program):
 
 def tasks(program):
     """What there is to run: its name, the call and its words."""
+    yield "fields", fields_swept, program
     yield "answers as JSON", json_swept, program, range(1000, 1120)
     yield "names in JSON", names_swept, program
     yield "questions of bits", bits_swept, program, range(80)

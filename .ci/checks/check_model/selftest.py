@@ -118,13 +118,46 @@ SHOWN_OTHERWISE = [
 ]
 
 
+A, B = ('{"Leaf":{"Variable":{"entry":{"Main":{"offset":0}},"index":%d}}}' % index for index in (0, 1))
+ONE = '{"Leaf":{"Constant":1}}'
+LOOKUPS = (
+    '[[{"kind":{"Global":"m"},"elements":[[{"Sub":[.A,{"Sub":[.B,.1]}]},{"Add":[.1,.1]}]],"multiplicities":[{"Neg":.B}],'
+    '"count_weight":0,"column":0,"flags":null},{"kind":"Local","elements":[[{"Mul":[.A,.A]}]],"multiplicities":[.1],'
+    '"count_weight":1,"column":1,"flags":null}]]\n'
+)
+SHOWN_AS_JSON = LOOKUPS.replace(".A", A).replace(".B", B).replace(".1", ONE)
+JSON_OTHERWISE = [
+    ("", "", 0),
+    ('{"Global":"m"}', '"Local"', 1),
+    ('"Local"', '{"Global":"local"}', 1),
+    ('"Sub"', '"Add"', 1),
+    ('"Mul"', '"Times"', 1),
+    ('"Neg":', '"Leaf":', 1),
+    ('"offset":0', '"offset":1', 1),
+    ('"index":0', '"index":1', 1),
+    ('"Constant":1', '"Constant":2', 1),
+    ('"Constant":1', '"Constant":2013265922', 1),
+    ('"Constant":1', '"Constant":"1"', 1),
+    ('"Main"', '"Preprocessed"', 1),
+    ('"count_weight":1', '"count_weight":0', 1),
+    ('"flags":null', '"flags":[]', 1),
+    ('"flags":null', '"flag":null', 1),
+    ("]]\n", "],[]]\n", 1),
+    ("]]\n", "]]", 1),
+    (SHOWN_AS_JSON, "[]\n", 1),
+    (SHOWN_AS_JSON, "{\n", 1),
+]
+
+
 def of_shown():
     text = b"air x {\ntrace \"t.csv\"\nprovide m(a - (b - 1), 2) times b\nquery local(a^2)\n}\n"
+    kinds = (SHOWN, SHOWN_OTHERWISE, showing.faults_of), (SHOWN_AS_JSON, JSON_OTHERWISE, showing.faults_of_json)
     with room() as folder:
         written(folder, {"t.csv": b"a,b\n1,5\n3,4\n"})
-        for old, new, count in SHOWN_OTHERWISE:
-            faults, _ = showing.faults_of(text, folder, SHOWN.replace(old, new, 1).encode())
-            yield from counted(f"{new!r} in place of {old!r} is shown", len(faults), count)
+        for shown, otherwise, faults_of in kinds:
+            for old, new, count in otherwise:
+                faults, _ = faults_of(text, folder, shown.replace(old, new, 1).encode())
+                yield from counted(f"{new!r} in place of {old!r} is shown", len(faults), count)
 
 
 def of_batches():

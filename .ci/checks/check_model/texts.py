@@ -6,6 +6,7 @@ from refused_memory.runs import swept
 
 from . import batches, option_texts, showing, witness_texts
 from .comparing import TOP, bytes_of, cases, compared, modelled, run_compared, wanted_of
+from .fields import FIELDS
 from .running import FILE, Answer, answer_of, differences, limit, room, unlawful, written
 
 EXAMPLE = "examples/memory/memory.lookups"
@@ -46,18 +47,19 @@ def random_swept(program, seeds):
     return len(seeds), faults + [f"random batches seldom have status {it}" for it in rare], {}
 
 
-def shown_swept(program, seeds):
+def shown_swept(program, seeds, options, faults_of):
     """What `show` writes of the random batches of these seeds, read again."""
     faults, compared_ones = [], 0
     with room() as folder:
         for seed in seeds:
-            text, files = batches.batch_of_seed(seed)
+            field = [*FIELDS][seed // 2 % len(FIELDS)]
+            text, files = batches.batch_of_seed(seed, field)
             written(folder, {**files, FILE: text})
-            found = answer_of(program, ["show", FILE], folder)
+            found = answer_of(program, ["show", FILE, "--field", field, *options], folder)
             # of no AIR nothing is shown
             faults += [f"seed {seed}: {it}" for it in unlawful(found) if found != Answer(0, b"", b"")]
             if found.status == 0:
-                again, count = showing.faults_of(text, folder, found.output)
+                again, count = faults_of(text, folder, found.output, field)
                 faults += [f"seed {seed}: {it}" for it in again]
                 compared_ones += count
     few = [f"only {compared_ones} messages are compared"] if compared_ones < len(seeds) else []
@@ -335,7 +337,8 @@ def tasks(program, shim):
         yield "cut texts", cut_swept, program, name
     for part in range(CHANGED_PARTS):
         yield "changed texts", changed_swept, program, "gaps.csv", part
-    yield "shown lookups", shown_swept, program, range(0, 300, 2)
+    yield "shown lookups", shown_swept, program, range(0, 300, 2), [], showing.faults_of
+    yield "shown lookups as JSON", shown_swept, program, range(0, 80, 2), ["--json"], showing.faults_of_json
     yield "cases", cases_swept, program
     yield "small tables", tables_swept, program
     yield "files and words", files_swept, program
