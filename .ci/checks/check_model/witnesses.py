@@ -6,8 +6,9 @@ from . import counting
 from .fields import ASKED, minus, of, plus, power, product_of, quotient, times, total
 from .reading import value_of
 
-# What the fraction of a lookup on a row has to satisfy: denominator * fraction = numerator.
-Equation = collections.namedtuple("Equation", "denominator numerator")
+# What the fraction of a lookup on a row has to satisfy: denominator * fraction = numerator. `plain` is the sum of counts
+# over denominators, in which a count of 0 gives 0, or None where another count stands over zero.
+Equation = collections.namedtuple("Equation", "denominator numerator plain")
 # What a witness has for an AIR: its rows, each an accumulator and fractions, and its terminal or None.
 Part = collections.namedtuple("Part", "rows terminal")
 
@@ -33,11 +34,13 @@ def denominator_of(point, alpha, beta, widest):
 def equation_of(lookup, branches, denominators, numerators):
     """The equation of a lookup, of whose branches some count."""
     if lookup.exclusive and not branches:
-        return Equation(of(1), of(0))
+        return Equation(of(1), of(0), of(0))
     places = range(len(branches))
     others = [product_of(denominators[it] for it in places if it != place) for place in places]
     numerator = total(times(of(one), other) for one, other in zip(numerators, others))
-    return Equation(product_of(denominators), numerator)
+    counted = [(of(one), denominator) for one, denominator in zip(numerators, denominators) if one]
+    plain = total(quotient(*it) for it in counted) if all(any(it) for _, it in counted) else None
+    return Equation(product_of(denominators), numerator, plain)
 
 
 def equations_of(airs, alpha, beta):
@@ -97,11 +100,16 @@ def summed(rows):
     return Part(whole, accumulator)
 
 
+def is_regular(equations):
+    """Whether no denominator is zero."""
+    return all(any(equation.denominator) for equation in all_of(equations))
+
+
 def witness_of(equations):
-    """The only witness, or None where a denominator is zero."""
-    if not all(any(equation.denominator) for equation in all_of(equations)):
+    """The witness of plain fractions, or None where one of them has zero for its denominator."""
+    if any(equation.plain is None for equation in all_of(equations)):
         return None
-    return [summed([list(map(fraction_of, row)) for row in rows]) for rows in equations]
+    return [summed([[equation.plain for equation in row] for row in rows]) for rows in equations]
 
 
 def accepted_one(equations):
