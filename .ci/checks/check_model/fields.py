@@ -16,7 +16,7 @@ ASKED = types.SimpleNamespace()
 
 
 def ask(field=b"babybear4", limit=4, degree=3, target=None):
-    vars(ASKED).update(FIELDS[field]._asdict(), limit=limit, degree=degree, target=target)
+    vars(ASKED).update(FIELDS[field]._asdict(), name=field.decode(), limit=limit, degree=degree, target=target)
 
 
 ask()

@@ -82,8 +82,9 @@ def of_air(air):
 def before_traces(airs):
     """What is said before any trace is seen."""
     most = counting.most_messages(airs)
-    betas, alphas = counting.most_left(airs) if most else (0, None)
+    betas, alphas = counting.most_left(airs) if most else (None, None)
     return {
+        "field": ASKED.name,
         "airs": [of_air(air) for air in airs],
         "height_sum": str(counting.height_sum(airs)),
         "characteristic": str(ASKED.characteristic),
@@ -91,7 +92,7 @@ def before_traces(airs):
         "widest": counting.widest_of(airs),
         "heights": {
             "most_messages": str(most),
-            "bad_betas": str(betas),
+            "bad_betas": text_or_none(betas),
             "accepting_alphas": text_or_none(alphas),
             "bits": most_bits(airs),
         },
@@ -119,11 +120,11 @@ def planned(airs):
 def checked(text, airs, messages):
     """The answer of `check`, and whether all messages balance."""
     keys, unbalanced = counting.key_counts(airs, messages)
-    betas, alphas = counting.left_of(keys, unbalanced, counting.widest_of(airs)) if unbalanced else (0, None)
+    betas, alphas = counting.left_of(keys, unbalanced, counting.widest_of(airs)) if unbalanced else (None, None)
     traces = {
         "messages": str(keys),
         "unbalanced": str(unbalanced),
-        "bad_betas": str(betas),
+        "bad_betas": text_or_none(betas),
         "accepting_alphas": text_or_none(alphas),
         "bits": counting.bits_of(betas, alphas) if unbalanced else None,
     }
@@ -177,6 +178,6 @@ def bits(messages, unbalanced, widest):
     of_field = lambda field: counting.bits_of(*left, field) if left else None  # noqa: E731
     betas, alphas = map(str, left) if left else (None, None)
     numbers = {"messages": str(messages), "unbalanced": str(unbalanced), "width": str(widest)}
-    fields = [{"field": field.challenges, "bits": of_field(field)} for field in FIELDS.values()]
+    fields = [{"field": name.decode(), "bits": of_field(field)} for name, field in FIELDS.items()]
     told = object_of(**numbers, bad_betas=betas, accepting_alphas=alphas, fields=fields, **target(of_field(ASKED)))
     return told, counting.is_met(of_field(ASKED))

@@ -88,7 +88,7 @@ SPOILT = [
     (f"plan {MEMORY} --json", '"target":null', '"target":0'),
     (f"plan {MEMORY} --json --target 117", '"meets":true', '"meets":false'),
     (f"pack {MEMORY} --degree 2 --json", '"packed_degrees":[2,2,2]', '"packed_degrees":[3,2]'),
-    (f"{BITS} --json", '"field":"F7","bits":0', '"field":"F7","bits":null'),
+    (f"{BITS} --json", '"field":"f7","bits":0', '"field":"f7","bits":null'),
     (f"{BITS}", "  Goldilocks^2    115\n", ""),
     (f"{BITS} --target 111", "MET", "MISSED"),
     (f"{BITS} --target 112", "  TARGET MISSED: 112 bits are wanted\n", ""),
