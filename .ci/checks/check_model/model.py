@@ -134,11 +134,8 @@ NOT_FOR_A_ROW = re.compile(rb"NOT ACCEPTED: (?!air \d+: constraint failed)[^\n]+
 
 
 def accept_told(equations, options):
-    text = meaning.bytes_in(b"", options["witness"])
-    if text is None:
-        raise Told(refusal(telling.refused(options["witness"], "cannot be read")))
     try:
-        witness = witnesses.read(text)
+        witness = witnesses.read(meaning.bytes_in(b"", options["witness"]))
     except witnesses.WitnessFault as fault:
         place = re.escape(telling.shown(options["witness"]))
         answers = [refusal(re.compile(rb"%s:%d: error: [^\n]+\n" % (place, line))) for line in fault.lines]
@@ -211,12 +208,13 @@ def answer(words):
     ask(**field, **{name: int(options[name]) for name in ("degree", "limit", "target") if name in options})
     if command == b"bits":
         return bits_answer(options)
-    if refused := refused_challenge(options):
-        return refused
     (file,) = files
     text = meaning.bytes_in(b"", file)
-    if text is None:
-        return refusal(telling.refused(file, "cannot be read"))
+    for name in (file, options.get("witness")):
+        if name is not None and meaning.bytes_in(b"", name) is None:
+            return refusal(telling.refused(name, "cannot be read"))
+    if refused := refused_challenge(options):
+        return refused
     return told(file, text, os.path.dirname(file), COMMANDS[command](options))
 
 
