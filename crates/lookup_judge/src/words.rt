@@ -3,6 +3,7 @@ use lookup_names::bytes_of;
 use lookup_text::{AirText, BatchText, BusText, ItemText, PlacedItem, SectionText, Span, Verb};
 
 /// The lines of a text, found one after the other.
+#[derive(Drop)]
 pub(crate) struct Lines<'a> {
     text: &'a [u8],
     at: usize,
