@@ -117,7 +117,8 @@ def of_spoilt():
 READ = [
     (b"", None),
     (b"air 0\n0 4\n4 3\nterminal 0\n", None),
-    (b"air 0\n\n\nair 1\n0 1 2\nterminal 3\nair 2\n\n", None),
+    (b"air 0\nair 1\n0 1 2\nterminal 3\nair 2\n", None),
+    (b"air 0\n\nair 1\n0 1 2\nterminal 3\n", ([2], False)),
     (b"air 0\n0 4\n4 3\nterminal 0", ([4], False)),
     (b"air 0\r\n0 4\n", ([1], False)),
     (b"air 1\n", ([1], False)),

@@ -92,7 +92,7 @@ def has_any(equations):
 def summed(rows):
     """The witness of an AIR with these fractions."""
     if not any(rows):
-        return Part([[] for _ in rows], None)
+        return Part([], None)
     accumulator, whole = of(0), []
     for row in rows:
         whole.append([accumulator, *row])
@@ -149,7 +149,7 @@ def has_shape(equations, witness):
     """Whether the numbers of AIRs, rows and columns are those of the batch."""
     if len(equations) != len(witness):
         return False
-    shape = lambda rows: [len(row) + 1 if row else 0 for row in rows]  # noqa: E731
+    shape = lambda rows: [len(row) + 1 for row in rows if row]  # noqa: E731
     for rows, part in zip(equations, witness):
         if shape(rows) != list(map(len, part.rows)) or any(rows) != (part.terminal is not None):
             return False
@@ -192,12 +192,12 @@ def read_line(parts, line):
     if line == b"air %d" % len(parts):
         parts.append(Part([], []))
         return True
-    if not parts or parts[-1].terminal:
+    if not line or not parts or parts[-1].terminal:
         return False
     if line.startswith(b"terminal "):
         parts[-1].terminal.append(element_in(line[9:], TEXT))
         return parts[-1].terminal[0] is not None
-    parts[-1].rows.append([element_in(word, TEXT) for word in line.split(b" ")] if line else [])
+    parts[-1].rows.append([element_in(word, TEXT) for word in line.split(b" ")])
     return None not in parts[-1].rows[-1]
 
 
@@ -207,9 +207,9 @@ def is_odd(part):
 
 
 def is_odd_at_end(part):
-    """Whether the part is one that no batch has, as it ends: without rows, or with columns and no terminal, or with
-    none and a terminal, or with accumulators alone."""
-    return not part.rows or any(part.rows) != bool(part.terminal) or len(part.rows[0]) == 1
+    """Whether the part is one that no batch has, as it ends: with rows and no terminal, or with none and a terminal, or
+    with accumulators alone."""
+    return bool(part.rows) != bool(part.terminal) or any(len(row) == 1 for row in part.rows[:1])
 
 
 def read(text):
