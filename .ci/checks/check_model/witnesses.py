@@ -28,7 +28,7 @@ def denominator_of(point, alpha, beta, widest):
     """The denominator of an id with the values of a tuple."""
     number, values = point
     told = plus(alpha, times(of(number + 1), power(beta, widest)))
-    return minus(told, total(times(of(value), power(beta, place)) for place, value in enumerate(values)))
+    return minus(told, total(times(of(value), power(beta, place)) for place, value in enumerate(reversed(values))))
 
 
 def equation_of(lookup, branches, denominators, numerators):
