@@ -65,7 +65,7 @@ decision_line false = codes "NO WITNESS: at these challenges none is accepted\n"
 abbrev pub EndsWith : Bool → List ℕ → List ℕ → Type 0
 EndsWith json line text = json ≡ false → (front : List ℕ) × (text ≡ front ++ line)
 
-module _ {F K : Type 0} (fields : Fields F K) (number : F → ℕ) (text : List ℕ) (files : List File) where
+module _ {F K : Type 0} (fields : Fields F K) (text : List ℕ) (files : List File) where
   -- The lookups and the traces that the bytes of a file and the files that it names say, whose numbers are below the
   -- characteristic: they can be read, and no bus is declared twice.
   pub record IsReadBatch (traced : List (Traced F)) : Type 0 where
@@ -79,7 +79,7 @@ module _ {F K : Type 0} (fields : Fields F K) (number : F → ℕ) (text : List 
   -- The answer to `check`: there is a report of the lookups and the traces that the files say, with as many tuples as
   -- are told, or 64 if those are fewer; and the answer is yes
   -- if they balance, and no if they do not, as its last line says.
-  pub record IsVerdict (limit max_degree : ℕ) (json : Bool) (answer : Answer) : Type 0 where
+  pub record IsVerdict (number : F → ℕ) (limit max_degree : ℕ) (json : Bool) (answer : Answer) : Type 0 where
     pub traced : List (Traced F)
     pub batch : IsReadBatch traced
     pub report : Report F
@@ -160,14 +160,14 @@ module _ {F K : Type 0} (fields : Fields F K) (number : F → ℕ) (text : List 
     pub told : answer.text.items ≡ decision_line answer.yes
 
   -- the answer to a task over a field with so many challenges
-  abbrev pub AnswersOver : ℕ → Task → List ℕ → Answer → Type 0
-  AnswersOver challenges (Check limit degree json) witness answer = IsVerdict limit degree json answer
-  AnswersOver challenges (Plan degree json target) witness answer = IsPlanned degree challenges target answer
-  AnswersOver challenges (Pack degree json) witness answer = IsPlanned degree challenges None answer
-  AnswersOver challenges (Show json) witness answer = IsShown answer
-  AnswersOver challenges (OfWitness words out) witness answer = IsWitnessed words answer
-  AnswersOver challenges (Accept words file) witness answer = IsAcceptance words witness answer
-  AnswersOver challenges (Any words) witness answer = IsDecision words answer
+  abbrev pub AnswersOver : (F → ℕ) → ℕ → Task → List ℕ → Answer → Type 0
+  AnswersOver number challenges (Check limit degree json) witness answer = IsVerdict number limit degree json answer
+  AnswersOver number challenges (Plan degree json target) witness answer = IsPlanned degree challenges target answer
+  AnswersOver number challenges (Pack degree json) witness answer = IsPlanned degree challenges None answer
+  AnswersOver number challenges (Show json) witness answer = IsShown answer
+  AnswersOver number challenges (OfWitness words out) witness answer = IsWitnessed words answer
+  AnswersOver number challenges (Accept words file) witness answer = IsAcceptance words witness answer
+  AnswersOver number challenges (Any words) witness answer = IsDecision words answer
 
 module _
     (S : Fields (Residue 7) (Residue 7))
@@ -177,10 +177,10 @@ module _
   where
     -- the answer to a task over the field with this name
     abbrev pub AnswersIn : FieldName → Task → List ℕ → List File → List ℕ → Answer → Type 0
-    AnswersIn F7 task text files = AnswersOver S (λ x. x.value) text files (challenges_of F7) task
-    AnswersIn BabyBear4 task text files = AnswersOver B (λ x. x.value) text files (challenges_of BabyBear4) task
-    AnswersIn KoalaBear4 task text files = AnswersOver K (λ x. x.value) text files (challenges_of KoalaBear4) task
-    AnswersIn Goldilocks2 task text files = AnswersOver G (λ x. x.value) text files (challenges_of Goldilocks2) task
+    AnswersIn F7 task text files = AnswersOver S text files (λ x. x.value) (challenges_of F7) task
+    AnswersIn BabyBear4 task text files = AnswersOver B text files (λ x. x.value) (challenges_of BabyBear4) task
+    AnswersIn KoalaBear4 task text files = AnswersOver K text files (λ x. x.value) (challenges_of KoalaBear4) task
+    AnswersIn Goldilocks2 task text files = AnswersOver G text files (λ x. x.value) (challenges_of Goldilocks2) task
 
     -- The answer to what is asked: to a task of a batch that of its field, and to `bits` yes if as many bits are left in
     -- its field as are wanted.

@@ -69,8 +69,8 @@ pub(crate) fn answer_over<F: TableField, EF: Challenge<F>>(
     field: FieldName,
     task: Task<'_>,
 ) -> Result<Answer, RunRefusal>
-    ensures { IfOk result (AnswersOver ⟦<EF as Written<F>>⟧.fields F.number given.entry.text.now
-        (map named_of given.entry.files.now) (challenges_of field) task.entry
+    ensures { IfOk result (AnswersOver ⟦<EF as Written<F>>⟧.fields given.entry.text.now
+        (map named_of given.entry.files.now) F.number (challenges_of field) task.entry
         given.entry.witness.now) }
 {
     match task {
@@ -106,8 +106,8 @@ fn check<F: TableField, EF: Challenge<F>>(
     max_degree: usize,
     json: bool,
 ) -> Result<Answer, RunRefusal>
-    ensures { IfOk result (IsVerdict ⟦<EF as Written<F>>⟧.fields F.number given.entry.text.now
-        (map named_of given.entry.files.now) limit max_degree json) }
+    ensures { IfOk result (IsVerdict ⟦<EF as Written<F>>⟧.fields given.entry.text.now
+        (map named_of given.entry.files.now) F.number limit max_degree json) }
 {
     let batch = batch_of(alloc, given)?;
     let tables = tables_in(alloc, given, &batch, F::modulus())?;

@@ -19,8 +19,8 @@ returns-else-wanted-eq0 c = (
   λ few. elim few [
     | inl none ↦ absurd (grind (arith, none, c.if-wanted-eq0.false))
     | inr left ↦ elim (c.bits_of.ensures.none.0 (subst IsNone (sym c.in-None.is) refl)) [
-        | inl zero ↦ ap (λ n. nat_eq n 0) zero
-        | inr more ↦ absurd (none_left c.args.size c.args.bad c.args.wanted more left)
-      ]
+      | inl zero ↦ ap (λ n. nat_eq n 0) zero
+      | inr more ↦ absurd (none_left c.args.size c.args.bad c.args.wanted more left)
+    ]
   ],
 )
