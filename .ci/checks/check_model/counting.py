@@ -62,6 +62,13 @@ def sent_of(number, air):
                 yield Sent(number, index, row, values, value_of(branch.count, air, row))
 
 
+def check_flags(airs):
+    """The first fault of the flags of the first AIR that has one."""
+    for number, air in enumerate(airs):
+        for _ in sent_of(number, air):
+            pass
+
+
 def counting(lookup, number, air, index, row):
     """The branches of a lookup that count on a row."""
     if not lookup.exclusive:

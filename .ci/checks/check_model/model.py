@@ -96,15 +96,18 @@ def planned(as_text, as_json):
     return command
 
 
-def over_challenges(judged):
-    """`witness`, `accept` and `any`: what holds at a pair of challenges."""
+def over_challenges(judged, lawful=True):
+    """`witness`, `accept` and `any`: what holds at a pair of challenges, where flags are lawful or not looked at."""
 
     def command(options):
         alpha, beta = (witnesses.element_in(options[name], witnesses.WORD) for name in ("alpha", "beta"))
 
         def report(sections, folder, _text):
             airs, _ = meaning.airs_of(sections, folder)
-            return judged(witnesses.equations_of(well_formed(airs), alpha, beta), options)
+            well_formed(airs)
+            if lawful:
+                counting.check_flags(airs)
+            return judged(witnesses.equations_of(airs, alpha, beta), options)
 
         return report
 
@@ -155,7 +158,7 @@ COMMANDS = {
     b"plan": planned(telling.plan_told, objects.planned),
     b"pack": planned(lambda airs: (telling.airs_told(airs), True), objects.packed),
     b"witness": over_challenges(witness_told),
-    b"accept": over_challenges(accept_told),
+    b"accept": over_challenges(accept_told, lawful=False),
     b"any": over_challenges(any_told),
 }
 

@@ -121,9 +121,9 @@ SHOWN_OTHERWISE = [
 A, B = ('{"Leaf":{"Variable":{"entry":{"Main":{"offset":0}},"index":%d}}}' % index for index in (0, 1))
 ONE = '{"Leaf":{"Constant":1}}'
 LOOKUPS = (
-    '[[{"kind":{"Global":"m"},"elements":[[{"Sub":[.A,{"Sub":[.B,.1]}]},{"Add":[.1,.1]}]],"multiplicities":[{"Neg":.B}],'
+    '[{"name":"x","lookups":[{"kind":{"Global":"m"},"elements":[[{"Sub":[.A,{"Sub":[.B,.1]}]},{"Add":[.1,.1]}]],"multiplicities":[{"Neg":.B}],'
     '"count_weight":0,"column":0,"flags":null},{"kind":"Local","elements":[[{"Mul":[.A,.A]}]],"multiplicities":[.1],'
-    '"count_weight":1,"column":1,"flags":null}]]\n'
+    '"count_weight":1,"column":1,"flags":null}]}]\n'
 )
 SHOWN_AS_JSON = LOOKUPS.replace(".A", A).replace(".B", B).replace(".1", ONE)
 JSON_OTHERWISE = [
@@ -142,8 +142,10 @@ JSON_OTHERWISE = [
     ('"count_weight":1', '"count_weight":0', 1),
     ('"flags":null', '"flags":[]', 1),
     ('"flags":null', '"flag":null', 1),
-    ("]]\n", "],[]]\n", 1),
-    ("]]\n", "]]", 1),
+    ("]}]\n", "]},{}]\n", 1),
+    ("]}]\n", "]}]", 1),
+    ('"x"', '"y"', 1),
+    ('"x",', '"x","more":1,', 1),
     (SHOWN_AS_JSON, "[]\n", 1),
     (SHOWN_AS_JSON, "{\n", 1),
 ]

@@ -3,6 +3,7 @@ import json
 
 from . import counting, meaning
 from .fields import ASKED, ask
+from .objects import name_of
 from .reading import Fault, Reader, batch_of
 
 TITLES = ["lookup", "line", "bus", "tuple", "counts", "when", "weight"]
@@ -166,12 +167,13 @@ def is_alike(air, again, wanted):
 
 def faults_of_lists(airs, shown):
     """What is wrong with the lookups of each AIR as JSON, and how many were compared."""
-    if [len(air.lookups) for air in airs] != list(map(len, shown)):
-        return ["other numbers of AIRs or lookups"], 0
+    wanted = [(name_of(air.said.name), len(air.lookups)) for air in airs]
+    if wanted != [(it["name"], len(it["lookups"])) for it in shown] or any(len(it) != 2 for it in shown):
+        return ["other names or numbers of lookups"], 0
     faults, count = [], 0
     for air, those in zip(airs, shown):
         public = [item.said[2] for item in air.said.items if item.kind == "public"]
-        for lookup, said in zip(air.lookups, [] if isinstance(air.main.rows, range) else those):
+        for lookup, said in zip(air.lookups, [] if isinstance(air.main.rows, range) else those["lookups"]):
             faults += faults_of_lookup(air, lookup, said, public)
             count += 1
     return faults, count

@@ -30,22 +30,23 @@ def airs_in(folder, text):
     """The AIRs of a batch, or None where it is refused."""
     try:
         airs, _ = meaning.airs_of(reading.batch_of(text), folder)
-        list(messages_of(model.well_formed(airs)))
-        return airs
-    except (reading.Fault, meaning.TableFault, meaning.NoRows):
-        return None
-    except (counting.FlagFault, counting.Refused, counting.Untold):
+        return model.well_formed(airs)
+    except (reading.Fault, meaning.TableFault, meaning.NoRows, counting.Refused, counting.Untold):
         return None
 
 
 def messages_of(airs):
-    return (sent for place, air in enumerate(airs) for sent in counting.sent_of(place, air))
+    """All messages of a batch, or none where its flags are wrong."""
+    try:
+        return [sent for place, air in enumerate(airs) for sent in counting.sent_of(place, air)]
+    except counting.FlagFault:
+        return []
 
 
 def challenges(draw, airs):
     """A pair of challenges, at which maybe a denominator is zero."""
     alpha, beta = element(draw), draw.choice([element(draw), of(0), of(1)])
-    messages = list(messages_of(airs)) if airs else []
+    messages = messages_of(airs) if airs else []
     messages = [it for it in messages if not it.count] or messages if draw.random() < 0.5 else messages
     if messages and draw.random() < 0.4:
         sent = draw.choice(messages)

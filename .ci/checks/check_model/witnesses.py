@@ -7,7 +7,7 @@ from .fields import ASKED, minus, of, plus, power, product_of, quotient, times, 
 from .reading import value_of
 
 # What the fraction of a lookup on a row has to satisfy: denominator * fraction = numerator. `plain` is the sum of counts
-# over denominators, in which a count of 0 gives 0, or None where another count stands over zero.
+# over denominators, in which a count of 0 gives 0, or None where another count or a set flag stands over zero.
 Equation = collections.namedtuple("Equation", "denominator numerator plain")
 # What a witness has for an AIR: its rows, each an accumulator and fractions, and its terminal or None.
 Part = collections.namedtuple("Part", "rows terminal")
@@ -31,20 +31,26 @@ def denominator_of(point, alpha, beta, widest):
     return minus(told, total(times(of(value), power(beta, place)) for place, value in enumerate(reversed(values))))
 
 
-def equation_of(lookup, branches, denominators, numerators):
-    """The equation of a lookup, of whose branches some count."""
-    if lookup.exclusive and not branches:
-        return Equation(of(1), of(0), of(0))
-    places = range(len(branches))
+def flagged(flags, denominators, counts):
+    """The equation of an exclusive lookup. Where a flag is 1 and all others are 0, it is that of its message."""
+    rest = minus(of(1), of(sum(flags)))
+    denominator = plus(rest, total(times(of(flag), it) for flag, it in zip(flags, denominators)))
+    numerator = of(sum(flag * count for flag, count in zip(flags, counts)))
+    return Equation(denominator, numerator, quotient(numerator, denominator) if any(denominator) else None)
+
+
+def together(denominators, counts):
+    """The equation of messages all of which count."""
+    places = range(len(counts))
     others = [product_of(denominators[it] for it in places if it != place) for place in places]
-    numerator = total(times(of(one), other) for one, other in zip(numerators, others))
-    counted = [(of(one), denominator) for one, denominator in zip(numerators, denominators) if one]
-    plain = total(quotient(*it) for it in counted) if all(any(it) for _, it in counted) else None
+    numerator = total(times(of(count), other) for count, other in zip(counts, others))
+    divided = [(of(count), it) for count, it in zip(counts, denominators) if count]
+    plain = total(quotient(*it) for it in divided) if all(any(it) for _, it in divided) else None
     return Equation(product_of(denominators), numerator, plain)
 
 
 def equations_of(airs, alpha, beta):
-    """For each AIR and row the equation of each lookup, and the first fault of the flags."""
+    """For each AIR and row the equation of each lookup. Flags are not looked at."""
     ids, widest = counting.ids_of(airs), counting.widest_of(airs)
     whole = []
     for number, air in enumerate(airs):
@@ -52,12 +58,13 @@ def equations_of(airs, alpha, beta):
         for row in range(len(air.main.rows)):
             whole[-1].append([])
             for index, lookup in enumerate(air.lookups):
-                branches = counting.counting(lookup, number, air, index, row)
-                name = (number, index) if lookup.bus is None else lookup.bus
-                values = [[counting.value_of(it, air, row) for it in branch.tuple] for branch in branches]
-                denominators = [denominator_of((ids[name], it), alpha, beta, widest) for it in values]
-                numerators = [counting.value_of(branch.count, air, row) for branch in branches]
-                whole[-1][-1].append(equation_of(lookup, branches, denominators, numerators))
+                value = lambda it: counting.value_of(it, air, row)  # noqa: B023, E731
+                point = ids[(number, index) if lookup.bus is None else lookup.bus]
+                tuples = [list(map(value, branch.tuple)) for branch in lookup.branches]
+                sides = [denominator_of((point, it), alpha, beta, widest) for it in tuples]
+                sides = sides, [value(branch.count) for branch in lookup.branches]
+                flags = [value(branch.flag) for branch in lookup.branches] if lookup.exclusive else None
+                whole[-1][-1].append(flagged(flags, *sides) if lookup.exclusive else together(*sides))
     return whole
 
 
