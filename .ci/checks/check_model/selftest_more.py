@@ -218,6 +218,7 @@ OUT = [
     (Answer(0, b"", b"x"), True, WITNESS, 1),
     (Answer(1, b"", b""), True, WITNESS, 1),
     (Answer(2, b"", b"error: x\n"), False, None, 0),
+    (Answer(2, b"", b""), False, None, 1),
     (Answer(0, b"", b""), False, None, 1),
 ]
 

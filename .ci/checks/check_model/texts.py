@@ -259,7 +259,7 @@ def files_swept(program):
 
 
 # What the shell does with the streams, whether the batch is one that is refused, and the status. Where output cannot be
-# written nothing is told.
+# written that is told.
 STREAMS = [
     (">/dev/full", False, 2), (">&-", False, 2), ("2>&-", False, 0), ("2>/dev/full", False, 0), ("<&-", False, 0),
     (">/dev/full", True, 2), (">&-", True, 2), ("2>&-", True, 2), ("2>/dev/full", True, 2), (">&- 2>&- <&-", True, 2),
@@ -274,7 +274,7 @@ def streams_swept(program):
         file = "examples/errors/column.lookups" if refused else EXAMPLE
         words = ["bash", "-c", f'"$0" check {file} {how}', program]
         ran = subprocess.run(words, cwd=TOP, capture_output=True, preexec_fn=limit, check=False)
-        told = refused and "2>" not in how
+        told = status == 2 and "2>" not in how
         if ran.returncode != status or bool(ran.stderr) != told or bool(ran.stdout) != (status == 0):
             faults.append(f"{how}, {file}: status {ran.returncode}, errors {ran.stderr!r}")
     return len(STREAMS), faults, {}

@@ -305,15 +305,17 @@ def out_swept(program):
             file = meaning.bytes_in(folder, name) if is_written and name != b"/dev/null" else WITNESS_TEXT
             faults += [f"--out {name}: {it}" for it in out_faults(found, is_written, file)]
         written(folder, {**first_files(), "first.txt": b"before\n"})
-        found = answer_of(program, [*words, b"1", b"--out", b"out.txt"], folder)
-        faults += [f"--out of no witness: {it}" for it in unlawful(found)]
-        faults += ["there is no witness, and it is written"] if os.path.exists(os.path.join(folder, "out.txt")) else []
-    return len(OUT) + 1, faults, {}
+        for name, before in ((b"out.txt", None), (b"first.txt", b"before\n")):
+            found = answer_of(program, [*words, b"1", b"--out", name], folder)
+            faults += [f"--out of no witness: {it}" for it in unlawful(found)]
+            faults += ["there is no witness, and it is written"] if meaning.bytes_in(folder, name) != before else []
+    return len(OUT) + 2, faults, {}
 
 
 def out_faults(found, is_written, file):
     """What is wrong with a run that should have written the witness of examples/first."""
-    if found.status != (0 if is_written else 2) and is_written is not None or found.output:
+    fails = found.status == 2 and found.errors
+    if not (found.status == 0 if is_written else fails or is_written is None) or found.output:
         yield f"status {found.status}, output {found.output[:100]!r}, errors {found.errors[:200]!r}"
     elif is_written and found.errors:
         yield f"errors {found.errors[:200]!r}"
