@@ -2,16 +2,21 @@
 import random
 import re
 
+from .fields import FIELDS
+
 COLUMNS = ["a", "b", "c", "height", "at", "next", "times", "two words", "limb[3]", "x.y", "most", "when", "pre.x", "é"]
 BUSES = ["m", "gaps", "query", "local", "b[0]", "två"]
 PLAIN = re.compile(r"[A-Za-z_][A-Za-z0-9_.\[\]]*")
 
 
 class Batch:
-    """A text, and its tables by name."""
+    """A text, and its tables by name, over a field."""
 
-    def __init__(self, draw):
+    def __init__(self, draw, field):
         self.draw, self.files = draw, {}
+        self.characteristic = FIELDS[field].characteristic
+        # there the weights times the heights are below 7
+        self.is_small = field == b"f7"
         self.widths = {}
         self.declares = draw.random() < 0.5
         airs = [self.air(number) for number in range(draw.choice([0, 1, 1, 1, 2, 2, 3]))]
@@ -31,7 +36,8 @@ class Batch:
     # --- tables ---
 
     def number(self):
-        return self.draw.choice(["0", "1", "2", "3", "-1", "0", "1", "2013265920", "007", "-0", "1006632960"])
+        largest = self.characteristic - 1
+        return self.draw.choice(["0", "1", "2", "3", "-1", "0", "1", f"{largest}", "005", "-0", f"{largest // 2}"])
 
     def table(self, name, columns, rows):
         """A table, in which the columns `f0` and `f1` are flags."""
@@ -57,7 +63,7 @@ class Batch:
         if draw < 0.72:
             return self.draw.choice(["is_first_row", "is_last_row", "is_transition"])
         if draw < 0.9:
-            return self.draw.choice(["0", "1", "2", "3", "2013265921", "18446744073709551615"])
+            return self.draw.choice(["0", "1", "2", "3", f"{self.characteristic}", "18446744073709551615"])
         return f"({self.sum(1)})"
 
     def misspelt(self, name):
@@ -84,6 +90,8 @@ class Batch:
         width = self.widths.setdefault(bus, self.draw.choice([1, 1, 2, 3])) if bus else self.local_width
         verb = self.draw.choice(["query", "provide", "send", "receive"])
         text = f"{verb} {'local' if bus is None else self.named(bus)}({', '.join(self.sum() for _ in range(width))})"
+        if self.is_small and self.draw.random() < 0.8:
+            return f"{text} times {self.draw.choice(['1', '2', self.sum()])} at most 0"
         if self.draw.random() < 0.4:
             count = self.draw.choice(["2", "0", "3", self.sum()])
             text += f" times {count}"
@@ -114,7 +122,8 @@ class Batch:
         bus = self.draw.choice(self.buses)
         width = self.widths.setdefault(bus, self.draw.choice([1, 2]))
         tuple_text = ", ".join(self.sum() for _ in range(width))
-        return f"send {self.named(bus)}({tuple_text})\n    receive {self.named(bus)}({tuple_text})"
+        count = " times 1 at most 0" if self.is_small else ""
+        return f"send {self.named(bus)}({tuple_text}){count}\n    receive {self.named(bus)}({tuple_text}){count}"
 
     def definition(self):
         name = self.draw.choice(["s", "t", "u", "v", *COLUMNS[:3]])
@@ -142,7 +151,7 @@ class Batch:
         self.buses, self.given, self.balanced = draw.sample(BUSES, 2), set(), draw.random() < 0.4
         self.local_width = draw.choice([1, 2])
         columns = draw.sample(COLUMNS, draw.choice([1, 2, 3])) + (["f0", "f1"] if draw.random() < 0.6 else [])
-        rows = draw.choice([1, 2, 3, 4, 8])
+        rows = draw.choice([1, 2, 2, 2, 3] if self.is_small else [1, 2, 3, 4, 8])
         traced = draw.random() < 0.93
         if traced:
             self.table(f"t{number}.csv", columns, rows)
@@ -251,8 +260,8 @@ def words_of_seed(seed):
     """The command of a seed, with its options."""
     draw = random.Random(f"words {seed}")
     words = [draw.choice(["check"] * 5 + ["plan", "pack"])]
-    if draw.random() < 0.1:
-        words += ["--field", draw.choice(["koalabear4", "babybear4"])]
+    if draw.random() < 0.2:
+        words += ["--field", draw.choice([*FIELDS]).decode()]
     if draw.random() < 0.15 or words[0] == "pack":
         words += ["--degree", str(draw.choice([2, 3, 4, 6]))]
     if words[0] == "check" and draw.random() < 0.15:
@@ -260,10 +269,15 @@ def words_of_seed(seed):
     return words
 
 
-def batch_of_seed(seed):
-    """The text and the tables of a seed."""
+def field_in(words):
+    """The field that is among these words."""
+    return words[words.index("--field") + 1].encode() if "--field" in words else b"babybear4"
+
+
+def batch_of_seed(seed, field=b"babybear4"):
+    """The text and the tables of a seed, for a field."""
     draw = random.Random(seed)
-    batch = Batch(draw)
+    batch = Batch(draw, field)
     text, files = batch.text, batch.files
     for _ in range(draw.choice([0, 0, 1, 1, 2]) if seed % 2 else 0):
         text = spoilt(draw, text)

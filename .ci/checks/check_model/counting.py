@@ -2,9 +2,7 @@
 whole numbers modulo the characteristic, and each expression is worked out row by row."""
 import collections
 
-from .reading import ASKED
-
-EXTENSION = 4
+from .fields import ASKED
 
 # A message: its AIR, lookup and row, by their numbers, its values and its count.
 Sent = collections.namedtuple("Sent", "air lookup row tuple count")
@@ -23,6 +21,10 @@ class FlagFault(Exception):
 
 class Refused(Exception):
     """Why a batch is refused, where there is no place to tell."""
+
+
+class Untold(Exception):
+    """A batch is refused, and docs/CHECK.md does not say with which words."""
 
 
 # --- values ---
@@ -58,6 +60,13 @@ def sent_of(number, air):
             for branch in counting(lookup, number, air, index, row):
                 values = tuple(value_of(value, air, row) for value in branch.tuple)
                 yield Sent(number, index, row, values, value_of(branch.count, air, row))
+
+
+def check_flags(airs):
+    """The first fault of the flags of the first AIR that has one."""
+    for number, air in enumerate(airs):
+        for _ in sent_of(number, air):
+            pass
 
 
 def counting(lookup, number, air, index, row):
@@ -180,6 +189,21 @@ def names_of_groups(airs):
     return local + list(dict.fromkeys(bus for _, _, bus in places if bus is not None))
 
 
+def ids_of(airs):
+    """The id of each local lookup and of each bus, in the order of AIRs and lookups."""
+    ids = {}
+    for number, air in enumerate(airs):
+        for index, lookup in enumerate(air.lookups):
+            ids.setdefault((number, index) if lookup.bus is None else lookup.bus, len(ids))
+    return ids
+
+
+def check_ids(airs):
+    """Ids are distinct in the field."""
+    if len(ids_of(airs)) > ASKED.characteristic:
+        raise Untold
+
+
 def nets_of(messages):
     """The sum of the counts of each tuple, in the order of the first messages."""
     nets = {}
@@ -223,9 +247,25 @@ def most_messages(airs):
     return sum(len(air.main.rows) * on_row(air) for air in airs)
 
 
-def bits_of(betas, alphas):
+def most_left(airs):
+    """The betas and alphas at which traces that do not balance may be accepted, by the heights alone."""
+    most = most_messages(airs)
+    return widest_of(airs) * (most - 1), 2 * most - 1
+
+
+def left_of(keys, unbalanced, widest):
+    """The same, where so many of the distinct messages do not balance."""
+    return widest * (unbalanced - 1), keys + unbalanced - 1
+
+
+def bits_of(betas, alphas, field=ASKED):
     """The greatest number of bits by which the extension is as large as all bad choices; 0 where there is none."""
     bits = 0
-    while (betas + alphas) * 2 ** (bits + 1) <= ASKED.characteristic**EXTENSION:
+    while (betas + alphas) * 2 ** (bits + 1) <= field.characteristic**field.extension:
         bits += 1
     return bits
+
+
+def is_met(bits):
+    """Whether so many bits are as many as are wanted. None are the bits where there is nothing to be wrong about."""
+    return ASKED.target is None or bits is None or bits >= ASKED.target

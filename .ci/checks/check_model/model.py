@@ -1,98 +1,224 @@
 #!/usr/bin/env python3
 """A plain model of `lookup-check`: what it has to write, and its status.
 
-usage: model.py check|plan|pack FILE [--field NAME] [--degree D] [--limit N], or model.py bits --messages N ..
+usage: model.py check|plan|pack FILE [--field NAME] [--degree D] [--limit N] [--target B] [--json]
+       model.py bits --messages N [--unbalanced K] [--width W] [--field NAME] [--target B] [--json]
+       model.py witness|any FILE --alpha A --beta B [--field NAME]
+       model.py accept FILE --alpha A --beta B --witness FILE [--field NAME]
 
-It is written from docs/CHECK.md, and shares nothing with the program.
+It is written from docs/CHECK.md, and shares nothing with the program. Where docs/CHECK.md does not say how a text is
+worded, the pattern of it is written in place of the text.
 """
 import os
+import re
 import sys
 
 if __name__ == "__main__":
     sys.path.insert(0, os.path.dirname(os.path.dirname(os.path.realpath(__file__))))
     __package__ = "check_model"  # pylint: disable=redefined-builtin
 sys.dont_write_bytecode = True
-from . import counting, meaning, near, reading, telling  # noqa: E402
+from . import counting, meaning, near, objects, reading, telling, witnesses  # noqa: E402
+from .fields import ASKED, ask  # noqa: E402
+from .running import Answer, Either  # noqa: E402
 
 # An expression has up to 1,024 layers, and each is some calls here.
 sys.setrecursionlimit(20000)
 
+ANY_REFUSAL = re.compile(rb"[^\n]*error: [^\n]+\n")
+
+
+class Told(Exception):
+    """What has to be answered in place of a report."""
+
+
+def refusal(errors):
+    return Answer(2, b"", errors)
+
 
 def told(file, text, folder, report):
-    """The status, the output and the errors of a batch with this text, whose tables are beside it in a folder. A report
-    gives its text and whether it says yes."""
+    """The answer of a batch with this text, whose tables are beside it in a folder. A report gives its text and whether
+    it says yes."""
     sections = []
     try:
         sections = reading.batch_of(text)
         report_told, well = report(sections, folder, text)
     except reading.Fault as fault:
         meant = near.near_name(sections, folder, text, fault.at, fault.why)
-        return 2, b"", telling.refused_at(file, text, fault.at, fault.why, meant)
+        return refusal(telling.refused_at(file, text, fault.at, fault.why, meant))
     except meaning.TableFault as found:
-        return 2, b"", telling.refused_at(found.name, found.content, found.fault.at, found.fault.why)
+        return refusal(telling.refused_at(found.name, found.content, found.fault.at, found.fault.why))
     except meaning.NoRows as found:
-        return 2, b"", telling.refused(found.args[0], "there are no rows")
+        return refusal(telling.refused(found.args[0], "there are no rows"))
     except counting.FlagFault as fault:
         airs = [section for section in sections if isinstance(section, reading.Air)]
-        return 2, b"", telling.flags_refused(file, text, airs[fault.air], fault)
+        return refusal(telling.flags_refused(file, text, airs[fault.air], fault))
     except counting.Refused as why:
-        return 2, b"", telling.refused(file, str(why))
-    return (0 if well else 1), report_told, b""
+        return refusal(telling.refused(file, str(why)))
+    except counting.Untold:
+        return refusal(ANY_REFUSAL)
+    except Told as answer_told:
+        return answer_told.args[0]
+    return Answer(0 if well else 1, report_told, b"")
 
 
-def checked(sections, folder, text):
-    """`check`: whether all messages balance."""
-    airs, declared = meaning.airs_of(sections, folder)
+# --- reports ---
+
+
+def well_formed(airs):
+    """The AIRs of a batch, if they can be looked at together."""
     counting.check_widths(airs)
+    counting.check_ids(airs)
     counting.check_heights(airs)
-    messages = [sent for number, air in enumerate(airs) for sent in counting.sent_of(number, air)]
-    return telling.report_told(text, airs, declared, messages)
+    return airs
 
 
-def planned(of_airs):
-    """`plan` and `pack`: what holds before any trace is seen."""
+def checked(options):
+    """`check`: whether all messages balance."""
 
-    def report(sections, folder, _text):
-        airs = meaning.planned_of(sections, folder)
-        counting.check_widths(airs)
-        counting.check_heights(airs)
-        return of_airs(airs), True
+    def report(sections, folder, text):
+        airs, declared = meaning.airs_of(sections, folder)
+        well_formed(airs)
+        messages = [sent for number, air in enumerate(airs) for sent in counting.sent_of(number, air)]
+        if "json" in options:
+            return objects.checked(text, airs, messages)
+        return telling.report_told(text, airs, declared, messages)
 
     return report
 
 
-COMMANDS = {b"check": checked, b"plan": planned(telling.plan_told), b"pack": planned(telling.airs_told)}
+def planned(as_text, as_json):
+    """`plan` and `pack`: what holds before any trace is seen."""
+
+    def command(options):
+        of_airs = as_json if "json" in options else as_text
+        return lambda sections, folder, _text: of_airs(well_formed(meaning.planned_of(sections, folder)))
+
+    return command
+
+
+def over_challenges(judged, lawful=True):
+    """`witness`, `accept` and `any`: what holds at a pair of challenges, where flags are lawful or not looked at."""
+
+    def command(options):
+        alpha, beta = (witnesses.element_in(options[name], witnesses.WORD) for name in ("alpha", "beta"))
+
+        def report(sections, folder, _text):
+            airs, _ = meaning.airs_of(sections, folder)
+            well_formed(airs)
+            if lawful:
+                counting.check_flags(airs)
+            return judged(witnesses.equations_of(airs, alpha, beta), options)
+
+        return report
+
+    return command
+
+
+def witness_told(equations, options):
+    found = witnesses.witness_of(equations)
+    if found is None:
+        raise counting.Untold
+    if not os.path.isdir(os.path.dirname(options.get("out", b"")) or b"."):
+        raise Told(Answer(2, b"", re.compile(rb"(.+\n)+")))
+    text = b"" if "out" in options else witnesses.text_of(found)
+    if not witnesses.is_regular(equations):
+        raise Told(Either([refusal(ANY_REFUSAL), Answer(0, text, b"")]))
+    return text, True
+
+
+def any_told(equations, _options):
+    if witnesses.has_any(equations):
+        return b"SOME WITNESS: at these challenges a witness is accepted\n", True
+    return b"NO WITNESS: at these challenges none is accepted\n", False
+
+
+ACCEPTED = b"ACCEPTED: the witness satisfies all constraints, and its terminals sum to zero\n"
+NOT_FOR_A_ROW = re.compile(rb"NOT ACCEPTED: (?!air \d+: constraint failed)[^\n]+\n")
+
+
+def accept_told(equations, options):
+    try:
+        witness = witnesses.read(meaning.bytes_in(b"", options["witness"]))
+    except witnesses.WitnessFault as fault:
+        place = re.escape(telling.shown(options["witness"]))
+        answers = [refusal(re.compile(rb"%s:%d: error: [^\n]+\n" % (place, line))) for line in fault.lines]
+        raise Told(Either(answers + [Answer(1, NOT_FOR_A_ROW, b"")] * fault.is_read)) from None
+    if not witnesses.has_shape(equations, witness):
+        return NOT_FOR_A_ROW, False
+    fault = witnesses.first_fault(equations, witness)
+    if fault:
+        return b"NOT ACCEPTED: air %d: constraint failed at row %d\n" % fault, False
+    if any(witnesses.terminal_sum(witness)):
+        return NOT_FOR_A_ROW, False
+    return ACCEPTED, True
+
+
+COMMANDS = {
+    b"check": checked,
+    b"plan": planned(telling.plan_told, objects.planned),
+    b"pack": planned(lambda airs: (telling.airs_told(airs), True), objects.packed),
+    b"witness": over_challenges(witness_told),
+    b"accept": over_challenges(accept_told, lawful=False),
+    b"any": over_challenges(any_told),
+}
+
+# --- words ---
+
+ALONE = ("json",)
+NEEDED = {b"pack": {"degree"}, b"bits": {"messages"}, b"witness": {"alpha", "beta"}, b"any": {"alpha", "beta"}}
+NEEDED[b"accept"] = {"alpha", "beta", "witness"}
 
 
 def options_of(words):
-    """The options among the words of a command, and the other words. An option is a word before its value."""
+    """The options among the words of a command, and the other words. Most stand before their values."""
     options, others, words = {}, [], iter(words)
     for word in words:
         if word.startswith(b"--"):
-            options[word[2:].decode()] = next(words)
+            name = word[2:].decode()
+            options[name] = b"" if name in ALONE else next(words, None)
         else:
             others.append(word)
     return options, others
 
 
+def refused_challenge(options):
+    """The refusal of the first challenge that is no element, or None."""
+    for name in ("alpha", "beta"):
+        if name in options and witnesses.element_in(options[name], witnesses.WORD) is None:
+            parts = (name.encode(), ASKED.challenges.encode(), options[name])
+            return refusal(b"error: '--%s' is no element of %s: %s\n" % parts)
+    return None
+
+
+def bits_answer(options):
+    messages = int(options["messages"])
+    numbers = messages, int(options.get("unbalanced", messages)), int(options.get("width", 1))
+    as_told = objects.bits if "json" in options else telling.bits_table_told
+    bits_told, well = as_told(*numbers)
+    return Answer(0 if well else 1, bits_told, b"")
+
+
 def answer(words):
-    """The status, the output and the errors of the program with these words, or None where they are none of the
-    commands that are modelled, as they have to be written."""
+    """The answer of the program to these words, or None where they are none of the commands that are modelled, as they
+    have to be written. It may be of patterns."""
     command, *words = words
     options, files = options_of(words)
-    if command == b"bits" and not files:
-        messages = int(options["messages"])
-        unbalanced = int(options.get("unbalanced", messages))
-        return 0, telling.bits_table_told(messages, unbalanced, int(options.get("width", 1))), b""
-    if command not in COMMANDS or len(files) != 1:
+    if len(files) != (command != b"bits") or command not in (*COMMANDS, b"bits"):
         return None
-    field = {"field": options.pop("field")} if "field" in options else {}
-    reading.ask(**field, **{name: int(value) for name, value in options.items()})
+    if None in options.values() or NEEDED.get(command, set()) - set(options):
+        return None
+    field = {"field": options["field"]} if "field" in options else {}
+    ask(**field, **{name: int(options[name]) for name in ("degree", "limit", "target") if name in options})
+    if command == b"bits":
+        return bits_answer(options)
     (file,) = files
     text = meaning.bytes_in(b"", file)
-    if text is None:
-        return 2, b"", telling.refused(file, "cannot be read")
-    return told(file, text, os.path.dirname(file), COMMANDS[command])
+    for name in (file, options.get("witness")):
+        if name is not None and meaning.bytes_in(b"", name) is None:
+            return refusal(telling.refused(name, "cannot be read"))
+    if refused := refused_challenge(options):
+        return refused
+    return told(file, text, os.path.dirname(file), COMMANDS[command](options))
 
 
 def main():
@@ -100,10 +226,19 @@ def main():
     if found is None:
         print(__doc__.strip())
         return 3
-    status, output, errors = found
-    sys.stdout.buffer.write(output)
-    sys.stderr.buffer.write(errors)
-    return status
+    if isinstance(found, Either):
+        print(*found.answers, sep="\n")
+        return found.answers[0].status
+    for stream, part in ((sys.stdout, found.output), (sys.stderr, found.errors)):
+        stream.buffer.write(written(part))
+    return found.status
+
+
+def written(part):
+    """A text, or one that says what has to be written."""
+    if isinstance(part, bytes):
+        return part
+    return part.text() if isinstance(part, objects.Json) else part.pattern + b"\n"
 
 
 if __name__ == "__main__":

@@ -1,19 +1,9 @@
 """Reads a batch file and a table, as docs/CHECK.md says."""
 import collections
 import re
-import types
 
-# What the words of a run ask for: the field, how many tuples and places are told, and the degree of packed columns.
-FIELDS = {b"babybear4": (2013265921, "BabyBear^4"), b"koalabear4": (2130706433, "KoalaBear^4")}
-ASKED = types.SimpleNamespace()
+from .fields import ASKED
 
-
-def ask(field=b"babybear4", limit=4, degree=3):
-    ASKED.characteristic, ASKED.challenges = FIELDS[field]
-    ASKED.limit, ASKED.degree = limit, degree
-
-
-ask()
 LARGEST_NUMBER, MOST_LAYERS, LARGEST_EXPONENT = 2**64 - 1, 1024, 64
 MARK = b"\xef\xbb\xbf"
 

@@ -1,6 +1,7 @@
 """The built program, run within limits, and what is wrong with how it ends."""
 import collections
 import os
+import re
 import resource
 import subprocess
 import tempfile
@@ -10,7 +11,11 @@ SECONDS, BYTES = 10, 500_000_000
 PATIENCE = 120
 FILE = "batch.lookups"
 
+# What is written is a text here. In an answer that is wanted it may be a pattern of which it has to be, or what has a
+# method `unlike` that says how a text is otherwise.
 Answer = collections.namedtuple("Answer", "status output errors")
+# Answers of which any one is right.
+Either = collections.namedtuple("Either", "answers")
 
 
 def limit():
@@ -31,7 +36,7 @@ def written(folder, files):
     for name in os.listdir(folder):
         os.remove(os.path.join(folder, name))
     for name, content in files.items():
-        with open(os.path.join(folder, name), "wb") as file:
+        with open(os.path.join(os.fsencode(folder), os.fsencode(name)), "wb") as file:
             file.write(content)
 
 
@@ -49,14 +54,26 @@ def apart(wanted, found):
     return f"{found[start : at + 120]!r}, and not {wanted[start : at + 120]!r}"
 
 
+def unlike(wanted, found):
+    """How a text is otherwise than it has to be, or None."""
+    if isinstance(wanted, bytes):
+        return None if wanted == found else apart(wanted, found)
+    if isinstance(wanted, re.Pattern):
+        return None if wanted.fullmatch(found) else f"{found[:200]!r}, and not as {wanted.pattern!r}"
+    return wanted.unlike(found)
+
+
 def differences(wanted, found):
     """What a run does otherwise than it has to."""
-    if found.status != wanted.status:
+    if isinstance(wanted, Either):
+        each = [list(differences(answer, found)) for answer in wanted.answers]
+        yield from each[0] if all(each) else []
+    elif found.status != wanted.status:
         yield f"status {found.status}, and not {wanted.status}; errors {found.errors[:200]!r}"
-    elif found.output != wanted.output:
-        yield f"output {apart(wanted.output, found.output)}"
-    elif found.errors != wanted.errors:
-        yield f"errors {apart(wanted.errors, found.errors)}"
+    elif output := unlike(wanted.output, found.output):
+        yield f"output {output}"
+    elif errors := unlike(wanted.errors, found.errors):
+        yield f"errors {errors}"
 
 
 def unlawful(found):

@@ -3,8 +3,8 @@ the one that is wanted."""
 import collections
 import shutil
 
-from . import batches, showing, telling, texts
-from .reading import FIELDS
+from . import batches, option_texts, selftest_more, showing, telling, texts, witness_texts
+from .fields import FIELDS, ask
 from .running import Answer, differences, room, unlawful, written
 from .texts import REFUSED, long_faults, memory_faults
 
@@ -58,16 +58,17 @@ MEMORY = [
     ([(OUT, MET), (OUT, LAST)], 1),
 ]
 
-(SIZE, _), *_ = FIELDS.values()
+SIZE = FIELDS[b"babybear4"].characteristic
 # How many bits are left of the extension, reckoned apart: its size is 2013265921^4, just below 2^123.63.
 BITS = [((0, 1), 123), ((1, 1), 122), ((57, 39), 117), ((SIZE**4, 0), 0), ((SIZE**4, 1), 0), ((SIZE**5, 0), 0)]
 
 
 def counted(what, found, wanted):
-    return [] if found == wanted else [f"{what}: {found} faults, and not {wanted}"]
+    return [] if found == wanted else [f"{what}: {found}, and not {wanted}"]
 
 
 def of_answers():
+    ask()
     for wanted, found, count in DIFFERENT:
         yield from counted(f"differences of {found}", len(list(differences(wanted, found))), count)
     for found, count in UNLAWFUL:
@@ -88,6 +89,9 @@ def of_programs():
         yield from counted(f"{name}, small tables", len(faults), count)
         count, faults, _ = texts.long_swept(program, 0)
         yield from counted(f"{name}, a long text", min(1, len(faults)), count)
+        for swept in (option_texts.names_swept, witness_texts.numbers_swept):
+            count, faults, _ = swept(program)
+            yield from counted(f"{name}, {swept.__name__}", len(faults), count)
         _, faults, _ = texts.cases_swept(program)
         yield from counted(f"{name}, cases", len(faults), len(texts.cases()))
 
@@ -114,13 +118,48 @@ SHOWN_OTHERWISE = [
 ]
 
 
+A, B = ('{"Leaf":{"Variable":{"entry":{"Main":{"offset":0}},"index":%d}}}' % index for index in (0, 1))
+ONE = '{"Leaf":{"Constant":1}}'
+LOOKUPS = (
+    '[{"name":"x","lookups":[{"kind":{"Global":"m"},"elements":[[{"Sub":[.A,{"Sub":[.B,.1]}]},{"Add":[.1,.1]}]],"multiplicities":[{"Neg":.B}],'
+    '"count_weight":0,"column":0,"flags":null},{"kind":"Local","elements":[[{"Mul":[.A,.A]}]],"multiplicities":[.1],'
+    '"count_weight":1,"column":1,"flags":null}]}]\n'
+)
+SHOWN_AS_JSON = LOOKUPS.replace(".A", A).replace(".B", B).replace(".1", ONE)
+JSON_OTHERWISE = [
+    ("", "", 0),
+    ('{"Global":"m"}', '"Local"', 1),
+    ('"Local"', '{"Global":"local"}', 1),
+    ('"Sub"', '"Add"', 1),
+    ('"Mul"', '"Times"', 1),
+    ('"Neg":', '"Leaf":', 1),
+    ('"offset":0', '"offset":1', 1),
+    ('"index":0', '"index":1', 1),
+    ('"Constant":1', '"Constant":2', 1),
+    ('"Constant":1', '"Constant":2013265922', 1),
+    ('"Constant":1', '"Constant":"1"', 1),
+    ('"Main"', '"Preprocessed"', 1),
+    ('"count_weight":1', '"count_weight":0', 1),
+    ('"flags":null', '"flags":[]', 1),
+    ('"flags":null', '"flag":null', 1),
+    ("]}]\n", "]},{}]\n", 1),
+    ("]}]\n", "]}]", 1),
+    ('"x"', '"y"', 1),
+    ('"x",', '"x","more":1,', 1),
+    (SHOWN_AS_JSON, "[]\n", 1),
+    (SHOWN_AS_JSON, "{\n", 1),
+]
+
+
 def of_shown():
     text = b"air x {\ntrace \"t.csv\"\nprovide m(a - (b - 1), 2) times b\nquery local(a^2)\n}\n"
+    kinds = (SHOWN, SHOWN_OTHERWISE, showing.faults_of), (SHOWN_AS_JSON, JSON_OTHERWISE, showing.faults_of_json)
     with room() as folder:
         written(folder, {"t.csv": b"a,b\n1,5\n3,4\n"})
-        for old, new, count in SHOWN_OTHERWISE:
-            faults, _ = showing.faults_of(text, folder, SHOWN.replace(old, new, 1).encode())
-            yield from counted(f"{new!r} in place of {old!r} is shown", len(faults), count)
+        for shown, otherwise, faults_of in kinds:
+            for old, new, count in otherwise:
+                faults, _ = faults_of(text, folder, shown.replace(old, new, 1).encode())
+                yield from counted(f"{new!r} in place of {old!r} is shown", len(faults), count)
 
 
 def of_batches():
@@ -133,7 +172,8 @@ def of_batches():
 
 def judge_itself():
     """Tests the judge. Returns the status."""
-    faults = [*of_answers(), *of_programs(), *of_shown(), *of_batches()]
+    more = [it for row in selftest_more.rows() for it in counted(*row)]
+    faults = [*of_answers(), *of_programs(), *of_shown(), *of_batches(), *more]
     for fault in faults:
         print(f"check_texts --judge: {fault}")
     print(f"check_texts --judge: {len(faults)} faults of the judge")

@@ -1,6 +1,10 @@
 """What `show` writes, read again: each message has to mean on each row what the text says."""
+import json
+
 from . import counting, meaning
-from .reading import Fault, Reader, ask, batch_of
+from .fields import ASKED, ask
+from .objects import name_of
+from .reading import Fault, Reader, batch_of
 
 TITLES = ["lookup", "line", "bus", "tuple", "counts", "when", "weight"]
 RIGHT = {"lookup", "line", "weight"}
@@ -77,9 +81,9 @@ def is_plain(air):
     return not any(item.kind == "public" and item.said[1] in air.main.names for item in air.said.items)
 
 
-def faults_of(text, folder, output):
+def faults_of(text, folder, output, field=b"babybear4"):
     """What is wrong with what `show` writes of a batch that is read, and how many messages were compared."""
-    ask()
+    ask(field)
     airs, shown = meaning.planned_of(batch_of(text), folder), shown_in(output)
     if len(airs) != len(shown):
         return [f"{len(shown)} AIRs are shown, and not {len(airs)}"], 0
@@ -97,3 +101,90 @@ def faults_of(text, folder, output):
                 except Fault as fault:
                     faults.append(f"{cells} cannot be read again: {fault.why}")
     return faults, count
+
+
+# --- lookups as JSON ---
+
+SELECTORS = {"IsFirstRow": "is_first_row", "IsLastRow": "is_last_row", "IsTransition": "is_transition"}
+SIGNS = {"Add": "+", "Sub": "-", "Mul": "*"}
+
+
+def expression_in(said, public):
+    """An expression of the library's format, with the public values of its AIR. It has one member alone."""
+    ((kind, part),) = said.items()
+    if kind in SIGNS:
+        left, right = part
+        return (SIGNS[kind], expression_in(left, public), expression_in(right, public))
+    if kind == "Neg":
+        return ("negative", expression_in(part, public))
+    if kind != "Leaf":
+        raise ValueError(kind)
+    return (SELECTORS[part],) if isinstance(part, str) else leaf_in(part, public)
+
+
+def leaf_in(said, public):
+    ((kind, part),) = said.items()
+    if kind == "Constant":
+        if type(part) is not int or not 0 <= part < ASKED.characteristic:
+            raise ValueError(part)
+        return ("number", part)
+    entry, index = part["entry"], part["index"]
+    if kind != "Variable" or set(part) != {"entry", "index"}:
+        raise ValueError(said)
+    if entry == "Public":
+        return ("public", public[index])
+    ((window, place),) = entry.items()
+    return ({"Main": "main", "Preprocessed": "fixed"}[window], index, place["offset"])
+
+
+MEMBERS = {"kind", "elements", "multiplicities", "count_weight", "column", "flags"}
+
+
+def faults_of_lookup(air, lookup, said, public):
+    """What is wrong with a lookup of an AIR as JSON."""
+    kind = "Local" if lookup.bus is None else {"Global": lookup.bus.decode()}
+    flags = said["flags"]
+    numbers = (len(said["elements"]), len(said["multiplicities"]), len(flags) if lookup.exclusive else flags)
+    branches = len(lookup.branches)
+    if set(said) != MEMBERS or said["kind"] != kind or said["count_weight"] != lookup.weight:
+        yield f"{str(said)[:200]} is not {kind}, of weight {lookup.weight}"
+    elif numbers != (branches, branches, branches if lookup.exclusive else None):
+        yield f"{str(said)[:200]} has not {branches} messages"
+    else:
+        parts = [flags or [None] * branches, said["elements"], said["multiplicities"]]
+        for branch, flag, values, count in zip(lookup.branches, *parts):
+            again = [expression_in(it, public) for it in [*([flag] if flag else []), *values, count]]
+            wanted = [*([branch.flag] if flag else []), *branch.tuple, branch.count]
+            if len(again) != len(wanted) or any(map(lambda pair: not is_alike(air, *pair), zip(again, wanted))):
+                yield f"{str(said)[:200]} means another message than {branch}"
+
+
+def is_alike(air, again, wanted):
+    """Whether two expressions have one value on each row."""
+    rows = range(len(air.main.rows))
+    return all(counting.value_of(again, air, row) == counting.value_of(wanted, air, row) for row in rows)
+
+
+def faults_of_lists(airs, shown):
+    """What is wrong with the lookups of each AIR as JSON, and how many were compared."""
+    wanted = [(name_of(air.said.name), len(air.lookups)) for air in airs]
+    if wanted != [(it["name"], len(it["lookups"])) for it in shown] or any(len(it) != 2 for it in shown):
+        return ["other names or numbers of lookups"], 0
+    faults, count = [], 0
+    for air, those in zip(airs, shown):
+        public = [item.said[2] for item in air.said.items if item.kind == "public"]
+        for lookup, said in zip(air.lookups, [] if isinstance(air.main.rows, range) else those["lookups"]):
+            faults += faults_of_lookup(air, lookup, said, public)
+            count += 1
+    return faults, count
+
+
+def faults_of_json(text, folder, output, field=b"babybear4"):
+    """What is wrong with the lookups that `show --json` writes of a batch that is read, and how many were compared."""
+    ask(field)
+    if output.count(b"\n") != 1 or not output.endswith(b"\n"):
+        return ["not one line"], 0
+    try:
+        return faults_of_lists(meaning.planned_of(batch_of(text), folder), json.loads(output))
+    except (ValueError, TypeError, KeyError, IndexError, AttributeError) as why:
+        return [f"{output[:300]} is not in the library's format: {why!r}"], 0

@@ -1,6 +1,7 @@
 """How a report and a refusal are written."""
 from . import counting
-from .reading import ASKED, FIELDS, MARK, ask
+from .fields import ASKED, FIELDS
+from .reading import MARK
 
 # How many unbalanced tuples of a bus are compared, where fewer are told.
 COMPARED = 64
@@ -236,43 +237,56 @@ def soundness_told(airs, messages):
     told = b"\nSOUNDNESS\n  these traces: n = %s distinct messages, k = %s of them unbalanced, " % numbers[:2]
     told += b"widest tuple W = %s\n" % numbers[2]
     if unbalanced:
-        betas, alphas = widest * (unbalanced - 1), keys + unbalanced - 1
-        left = (grouped(betas), grouped(alphas))
-        told += b"    all but %s betas leave at most %s alphas at which any witness is accepted\n" % left
-        told += bits_told(betas, alphas)
+        left = counting.left_of(keys, unbalanced, widest)
+        told += b"  " + left_told(left) + bits_told(*left)
     return told + all_traces_told(airs)
 
 
+def left_told(left):
+    return b"  all but %s betas leave at most %s alphas at which any witness is accepted\n" % tuple(map(grouped, left))
+
+
 def all_traces_told(airs):
-    widest, most = counting.widest_of(airs), counting.most_messages(airs)
+    most = counting.most_messages(airs)
     told = b"  whatever traces of these heights a prover picks: at most %s messages\n" % grouped(most)
     if most:
-        betas, alphas = widest * (most - 1), 2 * most - 1
-        left = (grouped(betas), grouped(alphas))
-        told += b"    if they do not balance, all but %s betas leave at most %s alphas\n" % left
-        told += bits_told(betas, alphas)
+        left = counting.most_left(airs)
+        told += b"    if they do not balance, all but %s betas leave at most %s alphas\n" % tuple(map(grouped, left))
+        told += bits_told(*left)
     return told
 
 
+def target_told(bits):
+    """The line of a target, if there is one."""
+    if ASKED.target is None:
+        return b""
+    return b"  TARGET %s: %d bits are wanted\n" % (b"MET" if counting.is_met(bits) else b"MISSED", ASKED.target)
+
+
+def most_bits(airs):
+    """How many bits are left whatever the traces, or None where there are no messages."""
+    return counting.bits_of(*counting.most_left(airs)) if counting.most_messages(airs) else None
+
+
 def plan_told(airs):
-    """What is told of a batch before any trace is seen."""
-    return airs_told(airs) + heights_told(airs) + b"\nSOUNDNESS\n" + all_traces_told(airs)
+    """What is told of a batch before any trace is seen, and whether the target is met."""
+    bits = most_bits(airs)
+    told = airs_told(airs) + heights_told(airs) + b"\nSOUNDNESS\n" + all_traces_told(airs)
+    return told + target_told(bits), counting.is_met(bits)
 
 
 def bits_table_told(messages, unbalanced, widest):
-    """How many bits are left in each field."""
+    """How many bits are left in each field, and whether the target is met in the one that is asked for."""
     numbers = tuple(map(grouped, (messages, unbalanced, widest)))
     told = b"n = %s distinct messages, k = %s of them unbalanced, widest tuple W = %s\n" % numbers
     if not unbalanced:
-        return told + b"  all messages balance, so there is nothing to be wrong about\n"
-    betas, alphas = widest * (unbalanced - 1), messages + unbalanced - 1
-    left = (grouped(betas), grouped(alphas))
-    told += b"  all but %s betas leave at most %s alphas at which any witness is accepted\n" % left
-    lines = []
-    for field in FIELDS:
-        ask(field)
-        lines.append([ASKED.challenges.encode(), grouped(counting.bits_of(betas, alphas))])
-    return told + table(["challenges in", "bits"], lines, {1})
+        told += b"  all messages balance, so there is nothing to be wrong about\n"
+        return told + target_told(None), counting.is_met(None)
+    left = counting.left_of(messages, unbalanced, widest)
+    lines = [[it.challenges.encode(), grouped(counting.bits_of(*left, it))] for it in FIELDS.values()]
+    bits = counting.bits_of(*left)
+    told += left_told(left) + table(["challenges in", "bits"], lines, {1})
+    return told + target_told(bits), counting.is_met(bits)
 
 
 def report_told(text, airs, declared, messages):

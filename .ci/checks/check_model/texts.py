@@ -1,61 +1,18 @@
 """Texts over which the program is run: the cases, random batches, and hostile ones."""
-import functools
-import os
 import subprocess
-from importlib import machinery, util
 
 from refused_memory.program import REFUSED
 from refused_memory.runs import swept
 
-from . import batches, showing
-from .model import answer
+from . import batches, option_texts, showing, witness_texts
+from .comparing import TOP, bytes_of, cases, compared, modelled, run_compared, wanted_of
+from .fields import FIELDS
 from .running import FILE, Answer, answer_of, differences, limit, room, unlawful, written
 
-TOP = os.path.dirname(os.path.dirname(os.path.dirname(os.path.dirname(os.path.realpath(__file__)))))
 EXAMPLE = "examples/memory/memory.lookups"
 TABLES = ("accesses.csv", "boundary.csv", "gaps.csv")
 
-
-def bytes_of(path):
-    with open(f"{TOP}/{path}", "rb") as file:
-        return file.read()
-
-
-def modelled(folder, words):
-    """What the model answers in a folder."""
-    before = os.getcwd()
-    os.chdir(folder)
-    try:
-        found = answer(words) if words else None
-        return found and Answer(*found)
-    finally:
-        os.chdir(before)
-
-
-def compared(program, folder, what, files, words=("check",)):
-    """The faults of a run over these files, one of which is the batch, by the model."""
-    written(folder, files)
-    words = [*map(str.encode, words), FILE.encode()]
-    wanted, found = modelled(folder, words), answer_of(program, words, folder)
-    return [f"{what}: {it}" for it in differences(wanted, found)]
-
-
 # --- cases ---
-
-
-@functools.cache
-def cases():
-    """The runs of cases/check, each with its place and the answer that it has to give."""
-    loader = machinery.SourceFileLoader("run_cases", f"{TOP}/tools/run-cases")
-    module = util.module_from_spec(util.spec_from_loader("run_cases", loader))
-    loader.exec_module(module)
-    names = sorted(os.listdir(f"{TOP}/cases/check"))
-    found = [(name, *it) for name in names for it in module.cases_of(f"{TOP}/cases/check/{name}")]
-    return [(f"{name}:{place}", case, status) for name, place, case, status in found]
-
-
-def wanted_of(case, status):
-    return Answer(status, case.output, case.errors)
 
 
 def cases_swept(program):
@@ -64,7 +21,7 @@ def cases_swept(program):
     for place, case, status in cases():
         wanted, by_model = wanted_of(case, status), modelled(TOP, case.words)
         count += 1 + (by_model is not None)
-        faults += [f"{place}: model: {it}" for it in differences(wanted, by_model or wanted)]
+        faults += [f"{place}: not by the model: {it}" for it in differences(by_model or wanted, wanted)]
         faults += [f"{place}: {it}" for it in differences(wanted, answer_of(program, case.words, TOP))]
     return count, faults, {}
 
@@ -81,8 +38,8 @@ def random_swept(program, seeds):
     faults, statuses = [], []
     with room() as folder:
         for seed in seeds:
-            text, files = batches.batch_of_seed(seed)
             words = batches.words_of_seed(seed)
+            text, files = batches.batch_of_seed(seed, batches.field_in(words))
             faults += compared(program, folder, f"seed {seed}, {' '.join(words)}", {**files, FILE: text}, words)
             if words == ["check"]:
                 statuses.append(modelled(folder, [b"check", FILE.encode()]).status)
@@ -90,18 +47,19 @@ def random_swept(program, seeds):
     return len(seeds), faults + [f"random batches seldom have status {it}" for it in rare], {}
 
 
-def shown_swept(program, seeds):
+def shown_swept(program, seeds, options, faults_of):
     """What `show` writes of the random batches of these seeds, read again."""
     faults, compared_ones = [], 0
     with room() as folder:
         for seed in seeds:
-            text, files = batches.batch_of_seed(seed)
+            field = [*FIELDS][seed // 2 % len(FIELDS)]
+            text, files = batches.batch_of_seed(seed, field)
             written(folder, {**files, FILE: text})
-            found = answer_of(program, ["show", FILE], folder)
+            found = answer_of(program, ["show", FILE, "--field", field, *options], folder)
             # of no AIR nothing is shown
             faults += [f"seed {seed}: {it}" for it in unlawful(found) if found != Answer(0, b"", b"")]
             if found.status == 0:
-                again, count = showing.faults_of(text, folder, found.output)
+                again, count = faults_of(text, folder, found.output, field)
                 faults += [f"seed {seed}: {it}" for it in again]
                 compared_ones += count
     few = [f"only {compared_ones} messages are compared"] if compared_ones < len(seeds) else []
@@ -203,8 +161,8 @@ OFTEN = b"UNBALANCED on m: (1) is sent or queried too often, by 100,000\n"
 NAME = "n" * MEGABYTE
 TRACED = 'air x{} {{\n trace "t.csv"\n query m(a)\n}}\n'
 # Long texts over a table whose one row is a = 1: a name, how the text is made, the status, and a part of what is
-# written then. In a chain the definition of number N has 2 N + 1 nodes, so 1,024 of them take all the room; where each is the
-# square of the one before, the first 19 of them take all but 21 nodes of it.
+# written then. In a chain the definition of number N has 2 N + 1 nodes, so 1,024 of them take all the room; where each
+# is the square of the one before, the first 19 of them take all but 21 nodes of it.
 LONG = [
     ("a long comment", lambda: air("#" * MEGABYTE, "query m(a)"), 1, b""),
     ("a long line of blanks", lambda: air(" " * MEGABYTE + "query m(a)"), 1, b""),
@@ -277,8 +235,8 @@ FILES = [
 # Words that the model has, and words of which only the way in which the program ends is looked at.
 WORDS = [b"check none", b"check .", b"check /dev/null", b"check t.csv", b"check x/", b"plan none", b"pack . --degree 2"]
 ODD_WORDS = [
-    b"", b"check", b"judge batch", b"check a b", b"check --limit", b"check --limit x t.csv", b"bits", b"help", b"--help",
-    b"plan", b"pack t.csv", b"check --limit 0 t.csv", b"check --degree 0 t.csv", b"check --field f7 t.csv",
+    b"", b"check", b"judge batch", b"check a b", b"check --limit", b"check --limit x t.csv", b"bits", b"help",
+    b"--help", b"plan", b"pack t.csv", b"check --limit 0 t.csv", b"check --degree 0 t.csv", b"check --field f8 t.csv",
 ]  # fmt: skip
 
 
@@ -290,8 +248,7 @@ def files_swept(program):
             text = b'air x {\n trace "%s"\n query m(a)\n}\n' % name
             faults += compared(program, folder, f"file {name!r}", {FILE: text, "t.csv": b"a\n1\n"})
         for words in map(bytes.split, WORDS):
-            wanted, found = modelled(folder, words), answer_of(program, words, folder)
-            faults += [f"words {words}: {it}" for it in differences(wanted, found)]
+            faults += run_compared(program, folder, words)
         for words in [*map(bytes.split, ODD_WORDS), [b"check", b""], [b"check", b"\xff"], [b"\xff"]]:
             faults += [f"words {words}: {it}" for it in unlawful(answer_of(program, words, folder))]
         endless = query("a").replace("t.csv", "/dev/zero").encode()
@@ -302,7 +259,7 @@ def files_swept(program):
 
 
 # What the shell does with the streams, whether the batch is one that is refused, and the status. Where output cannot be
-# written nothing is told.
+# written that is told.
 STREAMS = [
     (">/dev/full", False, 2), (">&-", False, 2), ("2>&-", False, 0), ("2>/dev/full", False, 0), ("<&-", False, 0),
     (">/dev/full", True, 2), (">&-", True, 2), ("2>&-", True, 2), ("2>/dev/full", True, 2), (">&- 2>&- <&-", True, 2),
@@ -317,7 +274,7 @@ def streams_swept(program):
         file = "examples/errors/column.lookups" if refused else EXAMPLE
         words = ["bash", "-c", f'"$0" check {file} {how}', program]
         ran = subprocess.run(words, cwd=TOP, capture_output=True, preexec_fn=limit, check=False)
-        told = refused and "2>" not in how
+        told = status == 2 and "2>" not in how
         if ran.returncode != status or bool(ran.stderr) != told or bool(ran.stdout) != (status == 0):
             faults.append(f"{how}, {file}: status {ran.returncode}, errors {ran.stderr!r}")
     return len(STREAMS), faults, {}
@@ -327,20 +284,28 @@ def streams_swept(program):
 
 # How many faults of such a run are told.
 FEW = 3
-SWEPT = (EXAMPLE, "examples/errors/column.lookups", "examples/errors/number.lookups")
+FIRST = "examples/first/first.lookups --field f7 --alpha 5 --beta 2"
+SWEPT = [
+    f"check {EXAMPLE}", "check examples/errors/column.lookups", "check examples/errors/number.lookups",
+    f"witness {FIRST}", f"accept {FIRST} --witness examples/first/witness.txt", f"any {FIRST}",
+    "bits --messages 1000 --width 3 --json", "check examples/first/unbalanced.lookups --field f7 --json",
+    "plan examples/range/range.lookups --target 101",
+]  # fmt: skip
 
 
-def memory_swept(program, shim, file, later):
+def memory_swept(program, shim, run, later):
     """Each request for memory of a run refused: alone, or with all that come after it."""
-    (wanted,) = [wanted_of(case, status) for _, case, status in cases() if case.words == [b"check", file.encode()]]
-    ample, *runs = swept(shim, program, ["check", f"{TOP}/{file}"], later=later)
+    words = run.encode().split()
+    (wanted,) = [wanted_of(case, status) for _, case, status in cases() if case.words == words]
+    rooted = [f"{TOP}/{word}" if word.startswith("examples/") else word for word in run.split()]
+    ample, *runs = swept(shim, program, rooted, later=later)
     # the place of a refusal has the name of the file
     shown = lambda ran: Answer(ran.status, ran.output, ran.errors.replace(f"{TOP}/".encode(), b""))  # noqa: E731
     faults = [f"with all memory: {it}" for it in differences(wanted, shown(ample))]
     faults += [f"{ample.live} blocks are not freed"] if ample.live else []
     faults += memory_faults(wanted, [(shown(it), it) for it in runs])
     more = [f"and {len(faults) - FEW} more faults of this run"] if len(faults) > FEW else []
-    return len(runs), [f"{file}: {it}" for it in faults[:FEW] + more], {}
+    return len(runs), [f"{run}: {it}" for it in faults[:FEW] + more], {}
 
 
 def memory_faults(wanted, runs):
@@ -357,20 +322,23 @@ def memory_faults(wanted, runs):
 
 def tasks(program, shim):
     """What there is to run, the longest first: its name, the call and its words."""
-    for file in SWEPT:
+    for run in SWEPT:
         for later in (False, True):
-            yield "memory refused", memory_swept, program, shim, file, later
+            yield "memory refused", memory_swept, program, shim, run, later
     for place in range(len(LONG + LONG_TABLES)):
         yield "long texts", long_swept, program, place
     for part in range(PARTS):
         yield "random batches", random_swept, program, range(part, SEEDS, PARTS)
     for part in range(CHANGED_PARTS):
         yield "changed texts", changed_swept, program, FILE, part
+    yield from witness_texts.tasks(program)
+    yield from option_texts.tasks(program)
     for name in (FILE, "gaps.csv"):
         yield "cut texts", cut_swept, program, name
     for part in range(CHANGED_PARTS):
         yield "changed texts", changed_swept, program, "gaps.csv", part
-    yield "shown lookups", shown_swept, program, range(0, 300, 2)
+    yield "shown lookups", shown_swept, program, range(0, 300, 2), [], showing.faults_of
+    yield "shown lookups as JSON", shown_swept, program, range(0, 80, 2), ["--json"], showing.faults_of_json
     yield "cases", cases_swept, program
     yield "small tables", tables_swept, program
     yield "files and words", files_swept, program

@@ -2,6 +2,7 @@
 mod elements;
 mod judgements;
 mod runs;
+mod witnesses;
 
 use std::process::Abort;
 

@@ -2,13 +2,15 @@
 //! that they name and the standard streams.
 #![tactic(auto)]
 
-use lookup_files::{NamedFile, files_of};
-use lookup_judge::{RunRefusal, refuse, run};
-use lookup_text::{TextFault, read_batch};
-use lookup_words::{Asked, WordsRefusal, asked};
-use std::alloc::{AllocError, Global};
+mod files;
+mod steps;
+
+use files::{ReadFiles, read_files};
+use lookup_judge::{Inputs, RunRefusal, refuse, run};
+use lookup_words::{Asked, BatchRequest, Task, WordsRefusal, asked};
 use std::process::ExitCode;
 use std::{env, fs, io};
+use steps::Steps;
 
 fn main(rt: HostRuntime) -> ExitCode {
     let alloc = rt.alloc();
@@ -23,102 +25,61 @@ fn main(rt: HostRuntime) -> ExitCode {
     }
 }
 
-/// Runs over the files that the words name.
+/// Runs over the files that the words name. Words that ask for nothing are told by `run`.
 fn over_files(rt: &HostRuntime, words: &[String]) -> ExitCode {
-    let alloc = rt.alloc();
-    let file = match file_of(alloc, words) {
-        Ok(file) => file,
-        Err(refusal) => return refuse(refusal, &mut rt.stderr()),
+    let request = match asked(rt.alloc(), words) {
+        Ok(Asked::Batch(request)) => Some(request),
+        Err(WordsRefusal::Memory) => return refuse(RunRefusal::Memory, &mut rt.stderr()),
+        _ => None,
     };
-    let text = match batch_bytes(rt, file) {
-        Ok(text) => text,
-        Err(refusal) => return refuse(refusal, &mut rt.stderr()),
-    };
-    let files = match contents(rt, file, text.as_slice()) {
+    let steps = Steps::of(rt, request);
+    let files = match read_files(rt, steps, request) {
         Ok(files) => files,
         Err(refusal) => return refuse(refusal, &mut rt.stderr()),
     };
-    let (mut output, mut errors) = (rt.stdout(), rt.stderr());
-    run(
-        alloc,
-        words,
-        text.as_slice(),
-        files.as_slice(),
-        &mut output,
-        &mut errors,
-    )
-}
-
-/// The file that is asked about, if one is. Words that ask for nothing are told by `run`.
-fn file_of<'a>(alloc: Global, words: &'a [String]) -> Result<Option<&'a str>, RunRefusal> {
-    match asked(alloc, words) {
-        Ok(
-            Asked::Check { file, .. }
-            | Asked::Plan { file, .. }
-            | Asked::Pack { file, .. }
-            | Asked::Show { file, .. },
-        ) => Ok(Some(file)),
-        Err(WordsRefusal::Memory) => Err(RunRefusal::Memory),
-        _ => Ok(None),
-    }
-}
-
-/// The bytes of the file that is asked about, none where there is none.
-fn batch_bytes(rt: &HostRuntime, file: Option<&str>) -> Result<Vec<u8>, RunRefusal> {
-    let alloc = rt.alloc();
-    let Some(file) = file else {
-        return Ok(Vec::new(alloc));
+    let ReadFiles {
+        text,
+        named,
+        witness,
+    } = &files;
+    let inputs = Inputs {
+        text: text.as_slice(),
+        files: named.as_slice(),
+        witness: witness.as_slice(),
     };
-    match bytes_of(rt, file)? {
-        Some(text) => Ok(text),
-        None => Err(RunRefusal::of_file(alloc, file.as_bytes(), "cannot be read")?),
-    }
-}
-
-/// The bytes of a file, or `None` where it cannot be read.
-fn bytes_of(rt: &HostRuntime, file: &str) -> Result<Option<Vec<u8>>, RunRefusal> {
-    match fs::read(rt, file) {
-        Ok(bytes) => Ok(Some(bytes)),
-        Err(error) if error.kind() == io::ErrorKind::OutOfMemory => Err(RunRefusal::Memory),
-        Err(_) => Ok(None),
-    }
-}
-
-/// The files that a text names, beside its own file, none where the text has a fault.
-fn contents(
-    rt: &HostRuntime,
-    file: Option<&str>,
-    text: &[u8],
-) -> Result<Vec<NamedFile>, RunRefusal> {
-    let alloc = rt.alloc();
-    let mut files = Vec::new(alloc);
-    let batch = match read_batch(alloc, text) {
-        Ok(batch) => batch,
-        Err(TextFault::Memory) => return Err(RunRefusal::Memory),
-        Err(TextFault::Fault(_)) => return Ok(files),
+    steps.tell(rt, "answering");
+    let status = match file_out(request) {
+        Some(file) => run_to_file(rt, words, inputs, file),
+        None => run(
+            rt.alloc(),
+            words,
+            inputs,
+            &mut rt.stdout(),
+            &mut rt.stderr(),
+        ),
     };
-    for name in files_of(alloc, text, &batch)? {
-        let path = beside(alloc, file, name.as_slice())?;
-        let content = match str::from_utf8(path.as_slice()) {
-            Ok(path) => bytes_of(rt, path)?,
-            Err(_) => None,
-        };
-        files.push(NamedFile { name, content })?;
-    }
-    Ok(files)
+    steps.tell(rt, "done");
+    status
 }
 
-/// A file beside another one.
-fn beside(alloc: Global, file: Option<&str>, name: &[u8]) -> Result<Vec<u8>, AllocError> {
-    let mut path = Vec::new(alloc);
-    if let (Some(file), false) = (file, name.starts_with(b"/")) {
-        let bytes = file.as_bytes();
-        let folder = match bytes.iter().rposition(|byte| *byte == b'/') {
-            Some(slash) => &bytes[..slash + 1],
-            None => &[],
-        };
-        path.extend_from_slice(folder)?;
+/// The file that the answer is written to, if one is named.
+fn file_out<'a>(request: Option<BatchRequest<'a>>) -> Option<&'a str> {
+    match request?.task {
+        Task::Witness { out, .. } => out,
+        _ => None,
     }
-    path.extend_from_slice(name)?;
-    Ok(path)
+}
+
+/// Runs, and writes the answer to a file. A run that is refused leaves the file as it is.
+fn run_to_file(rt: &HostRuntime, words: &[String], inputs: Inputs<'_>, file: &str) -> ExitCode {
+    let alloc = rt.alloc();
+    let mut answer = Vec::new(alloc);
+    let status = run(alloc, words, inputs, &mut answer, &mut rt.stderr());
+    if status == ExitCode::from(2) || fs::write(rt, file, answer.as_slice()).is_ok() {
+        return status;
+    }
+    match RunRefusal::of_file(alloc, file.as_bytes(), "cannot be written") {
+        Ok(refusal) => refuse(refusal, &mut rt.stderr()),
+        Err(_) => refuse(RunRefusal::Memory, &mut rt.stderr()),
+    }
 }

@@ -1,25 +1,25 @@
 //! Values as expressions over a field.
 ghost use Rattle.std.specs.Prelude.{◌≡◌, IfOk};
 ghost use Rattle.expressions.specs.Tree.{tree_of};
-ghost use Rattle.field.specs.Residue.{residue_of};
+ghost use Rattle.field.specs.Ring.{of_nat};
 ghost use Rattle.lookup_names.specs.Values.{meant_of};
 ghost use Rattle.lookup_elements.specs.Expressions.{cell_in, tree_in};
 
-use crate::element::element_of;
 use expressions::{BaseEntry, BaseLeaf, SymbolicExpression, SymbolicVariable};
-use field::{MontyField31, MontyParameters};
+use field::PrimeCharacteristicRing;
+use field_words::times_one;
 use lookup_names::Value;
 use std::alloc::{AllocError, Global};
 
-/// A value as an expression. A number counts modulo the characteristic.
+/// A value as an expression. A number is so many times one.
 ///
 /// Fails only when out of memory.
-pub fn expression_of<const P: u32, K: MontyParameters<P>>(
+pub fn expression_of<F: PrimeCharacteristicRing>(
     alloc: Global,
     value: &Value,
-) -> Result<SymbolicExpression<MontyField31<P, K>>, AllocError>
+) -> Result<SymbolicExpression<F>, AllocError>
     ensures { IfOk result (λ r. tree_of r
-        ≡ tree_in (residue_of P K.positive) (meant_of value.now)) }
+        ≡ tree_in (of_nat F.ring) (meant_of value.now)) }
 {
     match value {
         Value::Main { offset, column } => Ok(cell(BaseEntry::Main { offset: *offset }, *column)),
@@ -31,7 +31,7 @@ pub fn expression_of<const P: u32, K: MontyParameters<P>>(
         Value::LastRow => Ok(SymbolicExpression::Leaf(BaseLeaf::IsLastRow)),
         Value::Transition => Ok(SymbolicExpression::Leaf(BaseLeaf::IsTransition)),
         Value::Number(number) => {
-            Ok(SymbolicExpression::Leaf(BaseLeaf::Constant(element_of(*number))))
+            Ok(SymbolicExpression::Leaf(BaseLeaf::Constant(times_one(*number))))
         }
         Value::Negative(inner) => {
             let inner = expression_of(alloc, inner)?;

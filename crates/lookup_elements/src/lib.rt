@@ -2,13 +2,11 @@
 //! as traces.
 #![tactic(auto)]
 
-mod element;
 mod expression;
 mod fault;
 mod lookups;
 mod traces;
 
-pub use element::{element_of, elements_of};
 pub use expression::expression_of;
 pub use fault::{ElementFault, ElementRefusal, ElementWhy};
 pub use lookups::lookups_over;

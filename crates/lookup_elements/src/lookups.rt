@@ -1,7 +1,7 @@
 //! Lookups of names as lookups over a field.
 ghost use Rattle.std.specs.Prelude.{◌≡◌, ◌⊎◌, ◌^◌, ◌≤◌, IfOk, MatchOption, MatchResult, map, option_map};
 ghost use Rattle.expressions.specs.Tree.{tree_of};
-ghost use Rattle.field.specs.Residue.{residue_of};
+ghost use Rattle.field.specs.Ring.{of_nat};
 ghost use Rattle.lookup_model.specs.Outline.{bus_of, outline_of};
 ghost use Rattle.lookup_model.specs.Records.{AreRecords, IsRecordAt};
 ghost use Rattle.lookup_names.specs.Lookups.{column_of, part_of};
@@ -13,7 +13,7 @@ ghost use Rattle.lookup_elements.specs.Expressions.{tree_in};
 use crate::expression::expression_of;
 use crate::fault::{ElementFault, ElementRefusal, ElementWhy};
 use expressions::SymbolicExpression;
-use field::{MontyField31, MontyParameters};
+use field::PrimeCharacteristicRing;
 use lookup_model::{Kind, Lookup};
 use lookup_names::{NamedLookup, NamedPart, Value, bytes_of};
 use lookup_text::Span;
@@ -25,14 +25,14 @@ use std::alloc::{AllocError, Global};
 ///
 /// Refuses the first lookup whose bus has a name that is no UTF-8, or else whose weights do not fit
 /// 64 bits. Also fails when out of memory.
-pub fn lookups_over<const P: u32, K: MontyParameters<P>>(
+pub fn lookups_over<F: PrimeCharacteristicRing>(
     alloc: Global,
     text: &[u8],
     named: &[NamedLookup],
-) -> Result<Vec<Lookup<MontyField31<P, K>>>, ElementFault>
+) -> Result<Vec<Lookup<F>>, ElementFault>
     ensures lookups { MatchResult result
         (λ v. map outline_of v.items
-        ≡ outlines_in (residue_of P K.positive) text.now 0 (map column_of named.now))
+        ≡ outlines_in (of_nat F.ring) text.now 0 (map column_of named.now))
         (λ e. (e ≡ ElementFault.Memory) ⊎ (refusal : ElementRefusal)
         × (e ≡ ElementFault.Refused refusal)
         × IsFirstColumnRefusal text.now (map column_of named.now) refusal) }
@@ -46,14 +46,14 @@ pub fn lookups_over<const P: u32, K: MontyParameters<P>>(
 }
 
 /// A lookup of a text in this column.
-fn lookup_over<const P: u32, K: MontyParameters<P>>(
+fn lookup_over<F: PrimeCharacteristicRing>(
     alloc: Global,
     text: &[u8],
     named: &NamedLookup,
     column: usize,
-) -> Result<Lookup<MontyField31<P, K>>, ElementFault>
+) -> Result<Lookup<F>, ElementFault>
     ensures lookup { MatchResult result
-        (λ l. (outline_of l ≡ outline_in (residue_of P K.positive) text.now column
+        (λ l. (outline_of l ≡ outline_in (of_nat F.ring) text.now column
         (column_of named.now)) × IsMade text.now (column_of named.now))
         (λ e. (e ≡ ElementFault.Memory) ⊎ (refusal : ElementRefusal)
         × (e ≡ ElementFault.Refused refusal)
@@ -139,12 +139,12 @@ fn sum_of_weights(parts: &[NamedPart]) -> Option<u64>
 }
 
 /// The expressions of the tuples of some messages.
-fn tuples_over<const P: u32, K: MontyParameters<P>>(
+fn tuples_over<F: PrimeCharacteristicRing>(
     alloc: Global,
     parts: &[NamedPart],
-) -> Result<Vec<Vec<SymbolicExpression<MontyField31<P, K>>>>, AllocError>
+) -> Result<Vec<Vec<SymbolicExpression<F>>>, AllocError>
     ensures { IfOk result (λ v. map (λ tuple. map tree_of tuple.items) v.items
-        ≡ map (λ p. map (tree_in (residue_of P K.positive)) p.message.tuple)
+        ≡ map (λ p. map (tree_in (of_nat F.ring)) p.message.tuple)
         (map part_of parts.now)) }
 {
     let mut tuples = Vec::new(alloc);
@@ -155,12 +155,12 @@ fn tuples_over<const P: u32, K: MontyParameters<P>>(
 }
 
 /// The expressions of the counts of some messages.
-fn counts_over<const P: u32, K: MontyParameters<P>>(
+fn counts_over<F: PrimeCharacteristicRing>(
     alloc: Global,
     parts: &[NamedPart],
-) -> Result<Vec<SymbolicExpression<MontyField31<P, K>>>, AllocError>
+) -> Result<Vec<SymbolicExpression<F>>, AllocError>
     ensures { IfOk result (λ v. map tree_of v.items
-        ≡ map (λ p. tree_in (residue_of P K.positive) p.message.count) (map part_of parts.now)) }
+        ≡ map (λ p. tree_in (of_nat F.ring) p.message.count) (map part_of parts.now)) }
 {
     let mut counts = Vec::new(alloc);
     for part in parts {
@@ -170,12 +170,12 @@ fn counts_over<const P: u32, K: MontyParameters<P>>(
 }
 
 /// The expressions of the flags of some messages, one where there is none.
-fn flags_over<const P: u32, K: MontyParameters<P>>(
+fn flags_over<F: PrimeCharacteristicRing>(
     alloc: Global,
     parts: &[NamedPart],
-) -> Result<Vec<SymbolicExpression<MontyField31<P, K>>>, AllocError>
+) -> Result<Vec<SymbolicExpression<F>>, AllocError>
     ensures { IfOk result (λ v. map tree_of v.items
-        ≡ map (λ p. tree_in (residue_of P K.positive) (flag_or_one p.flag))
+        ≡ map (λ p. tree_in (of_nat F.ring) (flag_or_one p.flag))
         (map part_of parts.now)) }
 {
     let mut flags = Vec::new(alloc);
@@ -186,12 +186,12 @@ fn flags_over<const P: u32, K: MontyParameters<P>>(
 }
 
 /// The expression of a flag, one where there is none.
-fn flag_over<const P: u32, K: MontyParameters<P>>(
+fn flag_over<F: PrimeCharacteristicRing>(
     alloc: Global,
     flag: &Option<Value>,
-) -> Result<SymbolicExpression<MontyField31<P, K>>, AllocError>
+) -> Result<SymbolicExpression<F>, AllocError>
     ensures { IfOk result (λ r. tree_of r
-        ≡ tree_in (residue_of P K.positive) (flag_or_one (option_map meant_of flag.now))) }
+        ≡ tree_in (of_nat F.ring) (flag_or_one (option_map meant_of flag.now))) }
 {
     match flag {
         Some(value) => expression_of(alloc, value),
@@ -200,12 +200,12 @@ fn flag_over<const P: u32, K: MontyParameters<P>>(
 }
 
 /// The expressions of a tuple.
-fn tuple_over<const P: u32, K: MontyParameters<P>>(
+fn tuple_over<F: PrimeCharacteristicRing>(
     alloc: Global,
     values: &[Value],
-) -> Result<Vec<SymbolicExpression<MontyField31<P, K>>>, AllocError>
+) -> Result<Vec<SymbolicExpression<F>>, AllocError>
     ensures { IfOk result (λ v. map tree_of v.items
-        ≡ map (tree_in (residue_of P K.positive)) (map meant_of values.now)) }
+        ≡ map (tree_in (of_nat F.ring)) (map meant_of values.now)) }
 {
     let mut tuple = Vec::new(alloc);
     for value in values {

@@ -1,11 +1,11 @@
 //! Tables as traces over a field.
 ghost use Rattle.std.specs.Prelude.{◌≡◌, ◌↔◌, IfOk, IsTrue, length, map};
-ghost use Rattle.field.specs.Residue.{residue_of};
+ghost use Rattle.field.specs.Ring.{of_nat};
 ghost use Rattle.matrix.specs.Matrix.{IsShaped};
 ghost use Rattle.lookup_elements.specs.Traces.{HasWholeRows};
 
-use crate::element::elements_of;
-use field::{MontyField31, MontyParameters};
+use field::PrimeCharacteristicRing;
+use field_words::elements_of;
 use lookup_text::Table;
 use matrix::RowMajorMatrix;
 use std::alloc::{AllocError, Global};
@@ -20,13 +20,13 @@ pub fn has_whole_rows(table: &Table) -> bool
 }
 
 /// The trace of a table with whole rows. Fails only when out of memory.
-pub fn matrix_of<const P: u32, K: MontyParameters<P>>(
+pub fn matrix_of<F: PrimeCharacteristicRing>(
     alloc: Global,
     table: &Table,
-) -> Result<RowMajorMatrix<MontyField31<P, K>>, AllocError>
+) -> Result<RowMajorMatrix<F>, AllocError>
     requires { HasWholeRows (length table.now.names.items) (length table.now.cells.items) }
     ensures { IfOk result (λ m. m ≡ record {
-      values = map (residue_of P K.positive) table.now.cells.items;
+      values = map (of_nat F.ring) table.now.cells.items;
       width = length table.now.names.items;
     }) }
 {

@@ -55,7 +55,7 @@ fn push_files(
 }
 
 /// What the first file with a name holds, `None` where there is none or it cannot be read.
-pub(crate) fn content_of<'a>(files: &'a [NamedFile], name: &[u8]) -> Option<&'a [u8]>
+pub fn content_of<'a>(files: &'a [NamedFile], name: &[u8]) -> Option<&'a [u8]>
     ensures { option_map (λ x. x.now) result ≡ content_of name.now (map named_of files.now) }
 {
     for file in files {

@@ -8,6 +8,6 @@ mod shapes;
 mod tables;
 
 pub use fault::{TableFault, TableRefusal, TableWhy};
-pub use files::{NamedFile, files_of};
+pub use files::{NamedFile, content_of, files_of};
 pub use shapes::{AirShape, read_shapes};
 pub use tables::{AirTables, read_tables};

@@ -1,3 +1,4 @@
+pub mod Bits
 pub mod Found
 pub mod Refusals
 pub mod Runs

@@ -1,3 +1,3 @@
 -- What contracts of private functions and proofs are stated with. No public contract rests on it.
 pub mod Airs
-pub mod Challenges
+pub mod Opened

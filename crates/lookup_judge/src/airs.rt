@@ -1,6 +1,6 @@
 //! The AIRs of a text over a field: what it says of each, over its columns or over its tables.
 ghost use Rattle.std.specs.Prelude.{◌≡◌, IfOk, map, option_map};
-ghost use Rattle.field.specs.Residue.{residue_of};
+ghost use Rattle.field.specs.Ring.{of_nat};
 ghost use Rattle.lookup.specs.Lookups.{lookups_of};
 ghost use Rattle.lookup_files.specs.Shapes.{column_names, shape_of};
 ghost use Rattle.lookup_files.specs.Tables.{tables_of};
@@ -11,10 +11,11 @@ ghost use Rattle.lookup_text.specs.Batches.{air_of, section_of};
 ghost use Rattle.lookup_text.specs.Tables.{table_of};
 
 use crate::fault::JudgeFault;
-use field::{MontyField31, QuarticParameters};
+use field::Field;
+use field_words::elements_of;
 use lookup::Lookups;
 use lookup::debug_util::fit_fault;
-use lookup_elements::{elements_of, has_whole_rows, lookups_over, matrix_of};
+use lookup_elements::{has_whole_rows, lookups_over, matrix_of};
 use lookup_files::{AirShape, AirTables};
 use lookup_names::{NamedAir, lookups_of};
 use lookup_text::{AirText, BatchText, SectionText, Table};
@@ -65,14 +66,14 @@ pub(crate) fn airs_named(
 }
 
 /// The AIRs of a batch over these tables, one for each AIR.
-pub(crate) fn airs_over<const P: u32, K: QuarticParameters<P>>(
+pub(crate) fn airs_over<F: Field>(
     alloc: Global,
     text: &[u8],
     batch: &BatchText,
     tables: &[AirTables],
-) -> Result<Vec<AirOver<MontyField31<P, K>>>, JudgeFault>
+) -> Result<Vec<AirOver<F>>, JudgeFault>
     ensures said { IfOk result (λ v. let sections = map section_of batch.now.sections.items in
-        AreSaid (residue_of P K.positive) text.now sections 1048576 (airs_of sections)
+        AreSaid (of_nat F.ring) text.now sections 1048576 (airs_of sections)
         (map tables_of tables.now) (map over_traced v.items)) }
     ensures fit { IfOk result (λ v. AreFittingAirs v.items) }
 {
@@ -100,7 +101,7 @@ fn check_count(airs: usize, tables: usize) -> Result<(), JudgeFault>
 }
 
 /// The AIRs among the sections of a batch.
-fn airs_of(alloc: Global, batch: &BatchText) -> Result<Vec<&AirText>, AllocError>
+pub(crate) fn airs_of(alloc: Global, batch: &BatchText) -> Result<Vec<&AirText>, AllocError>
     ensures { IfOk result (λ v. map (λ a. air_of a.now) v.items
         ≡ airs_of (map section_of batch.now.sections.items)) }
 {
@@ -114,7 +115,7 @@ fn airs_of(alloc: Global, batch: &BatchText) -> Result<Vec<&AirText>, AllocError
 }
 
 /// An AIR with this number over its tables, and the room that it leaves.
-fn air_over<const P: u32, K: QuarticParameters<P>>(
+fn air_over<F: Field>(
     alloc: Global,
     text: &[u8],
     batch: &BatchText,
@@ -122,9 +123,9 @@ fn air_over<const P: u32, K: QuarticParameters<P>>(
     tables: &AirTables,
     index: usize,
     room: usize,
-) -> Result<(AirOver<MontyField31<P, K>>, usize), JudgeFault>
+) -> Result<(AirOver<F>, usize), JudgeFault>
     ensures said { IfOk result (λ r. (said : Said) × (r.1 ≡ said.room)
-        × IsSaid (residue_of P K.positive) text.now (map section_of batch.now.sections.items)
+        × IsSaid (of_nat F.ring) text.now (map section_of batch.now.sections.items)
         (air_of air.now) (tables_of tables.now) room said (over_traced r.0)) }
     ensures fit { IfOk result (λ r. IsFittingAir r.0) }
 {
@@ -155,13 +156,13 @@ fn air_over<const P: u32, K: QuarticParameters<P>>(
 }
 
 /// The lookups of an AIR with this number over a field.
-pub(crate) fn lookup_set<const P: u32, K: QuarticParameters<P>>(
+pub(crate) fn lookup_set<F: Field>(
     alloc: Global,
     text: &[u8],
     named: &NamedAir,
     air: usize,
-) -> Result<Lookups<MontyField31<P, K>>, JudgeFault>
-    ensures { IfOk result (λ set. AreLookupsOf (residue_of P K.positive) text.now
+) -> Result<Lookups<F>, JudgeFault>
+    ensures { IfOk result (λ set. AreLookupsOf (of_nat F.ring) text.now
         (said_of named.now) (lookups_of set)) }
 {
     let records = lookups_over(alloc, text, &named.lookups)?;
@@ -172,14 +173,14 @@ pub(crate) fn lookup_set<const P: u32, K: QuarticParameters<P>>(
 }
 
 /// The names and the trace of a preprocessed table, if there is one.
-fn fixed_trace<const P: u32, K: QuarticParameters<P>>(
+fn fixed_trace<F: Field>(
     alloc: Global,
     table: &Option<Table>,
     air: usize,
-) -> Result<(&[Vec<u8>], Option<RowMajorMatrix<MontyField31<P, K>>>), JudgeFault>
+) -> Result<(&[Vec<u8>], Option<RowMajorMatrix<F>>), JudgeFault>
     ensures { IfOk result (λ r. let numbers = option_map table_of table.now in
         (map (λ name. name.items) r.0.now ≡ column_names numbers)
-        × (r.1 ≡ option_map (trace_in (residue_of P K.positive)) numbers)) }
+        × (r.1 ≡ option_map (trace_in (of_nat F.ring)) numbers)) }
 {
     match table {
         None => Ok((&[], None)),

@@ -1,14 +1,20 @@
-//! The commands of the program, each from the bytes of its files to its answer.
+//! The commands about a batch, each from the bytes of its files to its answer.
 ghost use Rattle.std.specs.Prelude.{◌≡◌, IfOk, Ok, map, true};
-ghost use Rattle.field.specs.Residue.{residue_of};
 ghost use Rattle.lookup_files.specs.Files.{named_of};
 ghost use Rattle.lookup_files.specs.Shapes.{all_shapes, shape_of};
 ghost use Rattle.lookup_files.specs.Tables.{all_tables, tables_of};
-ghost use Rattle.lookup_judge.specs.Runs.{IsPlanned, IsVerdict};
+ghost use Rattle.lookup_judge.specs.Bits.{challenges_of};
+ghost use Rattle.lookup_judge.specs.Runs.{AnswersOver, IsPlanned, IsShown, IsVerdict};
+ghost use Rattle.lookup_judge.specs.Said.{SayOver, airs_of};
+ghost use Rattle.lookup_names.specs.Buses.{distinct_buses};
+ghost use Rattle.lookup_names.specs.Lookups.{said_of};
 ghost use Rattle.lookup_text.specs.Batches.{batch_at, section_of};
 
-use crate::airs::airs_named;
+use crate::airs::{airs_named, airs_of};
+use crate::bits::push_target;
 use crate::fault::JudgeFault;
+use crate::fields::TableField;
+use crate::json::{push_airs_json, push_plan_json, push_report_json};
 use crate::judgement::judge;
 use crate::page::Page;
 use crate::plan::{judge_plan, sets_over};
@@ -16,62 +22,94 @@ use crate::program::Answer;
 use crate::refusal::RunRefusal;
 use crate::sections::{Told, push_airs, push_plan, push_report};
 use crate::show::{push_json, push_lookups};
-use field::{MontyField31, MontyQuartic, Over, QuarticParameters};
+use crate::witness::{accept, any, witness};
+use field::{Field, Over};
+use field_words::{Challenge, Written};
 use lookup_files::{AirShape, AirTables, NamedFile, TableFault, read_shapes, read_tables};
 use lookup_names::{NamedAir, check_buses};
 use lookup_text::{BatchText, TextFault, read_batch};
-use lookup_words::FieldName;
+use lookup_words::{FieldName, Task};
 use std::alloc::Global;
 
 /// How many unbalanced tuples of a bus are looked at for those that differ in one value.
 const MOST_COMPARED: usize = 64;
 
-/// A file with a batch, by its name and its bytes, and the files that it names.
+/// A file with a batch, by its name and its bytes, the files that it names, and that of a witness.
 #[derive(Clone, Copy)]
 pub(crate) struct Given<'a> {
     pub(crate) file: &'a [u8],
     pub(crate) text: &'a [u8],
     pub(crate) files: &'a [NamedFile],
+    pub(crate) witness: &'a [u8],
 }
 
-impl<'a> Given<'a> {
-    pub(crate) fn new(file: &'a str, text: &'a [u8], files: &'a [NamedFile]) -> Given<'a>
-        ensures { (result.text ≡ text.entry) × (result.files ≡ files.entry) }
-    {
-        Given {
-            file: file.as_bytes(),
-            text,
-            files,
+/// The answer to a task over a field.
+pub(crate) fn answer_over<F: TableField, EF: Challenge<F>>(
+    alloc: Global,
+    given: Given<'_>,
+    field: FieldName,
+    task: Task<'_>,
+) -> Result<Answer, RunRefusal>
+    ensures { IfOk result (AnswersOver ⟦<EF as Written<F>>⟧.fields given.entry.text.now
+        (map named_of given.entry.files.now) F.number (challenges_of field) task.entry
+        given.entry.witness.now) }
+{
+    match task {
+        Task::Check {
+            limit,
+            degree,
+            json,
+        } => check::<F, EF>(alloc, given, field, limit, degree, json),
+        Task::Plan {
+            degree,
+            json,
+            target,
+        } => plan::<F, EF>(alloc, given, field, degree, json, target, false),
+        Task::Pack { degree, json } => {
+            plan::<F, EF>(alloc, given, field, degree, json, None, true)
         }
+        Task::Show { json } => show::<F, EF>(alloc, given, json),
+        Task::Witness { challenges, .. } => witness::<F, EF>(alloc, given, field, challenges),
+        Task::Accept {
+            challenges,
+            witness,
+        } => accept::<F, EF>(alloc, given, field, challenges, witness),
+        Task::Any { challenges } => any::<F, EF>(alloc, given, field, challenges),
     }
 }
 
 /// `check`: whether all balances, over a field.
-pub(crate) fn check<const P: u32, K: QuarticParameters<P>>(
+fn check<F: TableField, EF: Challenge<F>>(
     alloc: Global,
     given: Given<'_>,
     field: FieldName,
     limit: usize,
     max_degree: usize,
+    json: bool,
 ) -> Result<Answer, RunRefusal>
-    ensures { let E = ⟦<MontyQuartic<P, K> as Over<MontyField31<P, K>>>⟧.fields in
-        IfOk result (IsVerdict E P (residue_of P K.positive) (λ x. x.value) given.entry.text.now
-        (map named_of given.entry.files.now) max_degree) }
+    ensures { IfOk result (IsVerdict ⟦<EF as Written<F>>⟧.fields given.entry.text.now
+        (map named_of given.entry.files.now) F.number limit max_degree json) }
 {
     let batch = batch_of(alloc, given)?;
-    let tables = tables_in(alloc, given, &batch, u64::from(P))?;
+    let tables = tables_in(alloc, given, &batch, F::modulus())?;
     let (text, most) = (given.text, limit.max(MOST_COMPARED));
-    match judge::<P, K>(alloc, text, &batch, &tables, most, max_degree) {
+    match judge::<F, EF>(alloc, text, &batch, &tables, most, max_degree) {
         Ok(report) => {
             let mut page = Page::new(alloc);
+            let airs = airs_of(alloc, &batch)?;
             let told = Told {
                 text,
                 batch: &batch,
+                airs: airs.as_slice(),
                 field,
                 limit,
                 max_degree,
             };
-            push_report(&mut page, told, &report)?;
+            if json {
+                push_report_json(&mut page, told, &report)?;
+            } else {
+                push_report(&mut page, told, &report)?;
+            }
             Ok(Answer {
                 text: page.bytes,
                 yes: report.balanced,
@@ -82,50 +120,62 @@ pub(crate) fn check<const P: u32, K: QuarticParameters<P>>(
 }
 
 /// `plan`: what holds before any trace is seen; and `pack`, which tells the AIRs alone.
-pub(crate) fn plan<const P: u32, K: QuarticParameters<P>>(
+fn plan<F: TableField, EF: Challenge<F>>(
     alloc: Global,
     given: Given<'_>,
     field: FieldName,
     max_degree: usize,
+    json: bool,
+    target: Option<u64>,
     airs_alone: bool,
 ) -> Result<Answer, RunRefusal>
-    ensures { let E = ⟦<MontyQuartic<P, K> as Over<MontyField31<P, K>>>⟧.fields in
-        IfOk result (IsPlanned E P (residue_of P K.positive) (λ x. x.value) given.entry.text.now
-        (map named_of given.entry.files.now) max_degree) }
+    ensures { IfOk result (IsPlanned ⟦<EF as Written<F>>⟧.fields given.entry.text.now
+        (map named_of given.entry.files.now) max_degree (challenges_of field) target) }
 {
     let batch = batch_of(alloc, given)?;
-    let shapes = shapes_in(alloc, given, &batch, u64::from(P))?;
-    match judge_plan::<P, K>(alloc, given.text, &batch, &shapes, max_degree) {
+    let shapes = shapes_in(alloc, given, &batch, F::modulus())?;
+    match judge_plan::<F, EF>(alloc, given.text, &batch, &shapes, max_degree) {
         Ok(report) => {
             let mut page = Page::new(alloc);
+            let airs = airs_of(alloc, &batch)?;
             let told = Told {
                 text: given.text,
                 batch: &batch,
+                airs: airs.as_slice(),
                 field,
                 limit: 0,
                 max_degree,
             };
-            if airs_alone {
-                push_airs(&mut page, told, &report.airs)?;
-            } else {
-                push_plan(&mut page, told, &report)?;
+            let yes = report.for_all_traces().meets(field, target);
+            match (airs_alone, json) {
+                (true, true) => push_airs_json(&mut page, told, &report.airs)?,
+                (true, false) => push_airs(&mut page, told, &report.airs)?,
+                (false, true) => push_plan_json(&mut page, told, &report, target, yes)?,
+                (false, false) => {
+                    push_plan(&mut page, told, &report)?;
+                    push_target(&mut page, target, yes)?;
+                }
             }
-            Ok(Answer::of_page(page))
+            Ok(Answer {
+                text: page.bytes,
+                yes,
+            })
         }
         Err(fault) => Err(RunRefusal::of_judge(alloc, given, &batch, fault)?),
     }
 }
 
 /// `show`: each lookup as it was understood, in words or in JSON.
-pub(crate) fn show<const P: u32, K: QuarticParameters<P>>(
+fn show<F: TableField, EF: Challenge<F>>(
     alloc: Global,
     given: Given<'_>,
     json: bool,
 ) -> Result<Answer, RunRefusal>
-    ensures { IfOk result (λ answer. answer.yes ≡ true) }
+    ensures { IfOk result (IsShown ⟦<EF as Written<F>>⟧.fields given.entry.text.now
+        (map named_of given.entry.files.now)) }
 {
     let batch = batch_of(alloc, given)?;
-    let shapes = shapes_in(alloc, given, &batch, u64::from(P))?;
+    let shapes = shapes_in(alloc, given, &batch, F::modulus())?;
     let named = match named_in(alloc, given.text, &batch, &shapes) {
         Ok(named) => named,
         Err(fault) => return Err(RunRefusal::of_judge(alloc, given, &batch, fault)?),
@@ -135,7 +185,7 @@ pub(crate) fn show<const P: u32, K: QuarticParameters<P>>(
         push_lookups(&mut page, given.text, &batch, &shapes, &named)?;
         return Ok(Answer::of_page(page));
     }
-    match sets_over::<P, K>(alloc, given.text, &named) {
+    match sets_over::<F>(alloc, given.text, &named) {
         Ok(sets) => {
             push_json(&mut page, given.text, &batch, &sets)?;
             Ok(Answer::of_page(page))
@@ -150,13 +200,18 @@ fn named_in(
     text: &[u8],
     batch: &BatchText,
     shapes: &[AirShape],
-) -> Result<Vec<NamedAir>, JudgeFault> {
+) -> Result<Vec<NamedAir>, JudgeFault>
+    ensures { let sections = map section_of batch.now.sections.items in
+        IfOk result (λ v. (distinct_buses text.now sections ≡ Ok tt)
+        × SayOver text.now sections 1048576 (airs_of sections) (map shape_of shapes.now)
+        (map said_of v.items)) }
+{
     check_buses(text, batch)?;
     airs_named(alloc, text, batch, shapes)
 }
 
 /// The batch in a text.
-fn batch_of(alloc: Global, given: Given<'_>) -> Result<BatchText, RunRefusal>
+pub(crate) fn batch_of(alloc: Global, given: Given<'_>) -> Result<BatchText, RunRefusal>
     ensures { IfOk result (λ batch. batch_at given.entry.text.now
         ≡ Ok (map section_of batch.sections.items)) }
 {
@@ -170,7 +225,7 @@ fn batch_of(alloc: Global, given: Given<'_>) -> Result<BatchText, RunRefusal>
 }
 
 /// The tables that a batch names.
-fn tables_in(
+pub(crate) fn tables_in(
     alloc: Global,
     given: Given<'_>,
     batch: &BatchText,

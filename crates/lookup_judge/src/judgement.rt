@@ -1,7 +1,7 @@
 //! A batch, judged.
 ghost use Rattle.std.specs.Prelude.{◌≡◌, ◌↔◌, All, IfOk, IsTrue, List, Ok, map};
 ghost use Rattle.batch.specs.Traces.{view_of};
-ghost use Rattle.field.specs.Residue.{Residue, residue_of};
+ghost use Rattle.field.specs.Ring.{of_nat};
 ghost use Rattle.lookup_debug.specs.Contributions.{Traced, traced_of};
 ghost use Rattle.lookup_files.specs.Tables.{tables_of};
 ghost use Rattle.lookup_judge.specs.Found.{IsFound, sized_of};
@@ -10,16 +10,16 @@ ghost use Rattle.lookup_judge.specs.internal.Airs.{over_traced, size_of};
 ghost use Rattle.lookup_names.specs.Buses.{distinct_buses};
 ghost use Rattle.lookup_text.specs.Batches.{section_of};
 
-use crate::airs::{AirOver, airs_over};
+use crate::airs::AirOver;
 use crate::fault::JudgeFault;
-use crate::plan::{plan_over, report_plan};
+use crate::opened::{PlannedAirs, planned_airs};
+use crate::plan::report_plan;
 use crate::report::Report;
 use crate::sizes::SizedAir;
 use batch::BatchTrace;
-use field::{Field, MontyField31, MontyQuartic, Over, QuarticParameters};
-use lookup::debug_util::{BusGroup, LookupDebugInstance, bus_table};
+use field::{ExtensionField, Field, Over};
+use lookup::debug_util::{BusGroup, LookupDebugInstance, SignedField, bus_table};
 use lookup_files::AirTables;
-use lookup_names::check_buses;
 use lookup_text::BatchText;
 use std::alloc::{AllocError, Global};
 
@@ -34,33 +34,29 @@ use std::alloc::{AllocError, Global};
 /// `lookups_over`, and lookups that do not fit the tables, which is so where both tables have not
 /// as many rows; then what `BatchPlan::new`, `BatchPlan::soundness_count` and
 /// `BatchPlan::soundness_of_heights` refuse. Also fails when out of memory.
-pub fn judge<const P: u32, K: QuarticParameters<P>>(
+pub fn judge<F: SignedField, EF: ExtensionField<F>>(
     alloc: Global,
     text: &[u8],
     batch: &BatchText,
     tables: &[AirTables],
     limit: usize,
     max_degree: usize,
-) -> Result<Report<MontyField31<P, K>>, JudgeFault>
-    ensures { let E = ⟦<MontyQuartic<P, K> as Over<MontyField31<P, K>>>⟧.fields in
+) -> Result<Report<F>, JudgeFault>
+    ensures { let E = ⟦<EF as Over<F>>⟧.fields in
         let sections = map section_of batch.now.sections.items in
         IfOk result (λ report. (distinct_buses text.now sections ≡ Ok tt)
-        × (traced : List (Traced (Residue P))) × AreSaid (residue_of P K.positive) text.now sections 1048576 (airs_of sections)
+        × (traced : List (Traced (F))) × AreSaid (of_nat F.ring) text.now sections 1048576 (airs_of sections)
         (map tables_of tables.now) traced
-        × IsFound E P limit max_degree (λ x. x.value) traced report) }
+        × IsFound E F.CHARACTERISTIC limit max_degree F.number traced report) }
 {
-    check_buses(text, batch)?;
-    let airs = airs_over::<P, K>(alloc, text, batch, tables)?;
-    let sizes = sizes_of(alloc, &airs)?;
-    let plan = plan_over(alloc, &sizes)?;
+    let PlannedAirs { airs, plan } = planned_airs(alloc, text, batch, tables)?;
     let traces = traces_of(alloc, &airs)?;
-    let counts = plan.soundness_count::<MontyQuartic<P, K>>(alloc, &traces)?;
+    let counts = plan.soundness_count::<EF>(alloc, &traces)?;
     let instances = instances_of(alloc, &airs)?;
     let groups = bus_table(alloc, &instances, limit)?;
     let balanced = all_balance(&groups);
-    let plan = report_plan::<MontyField31<P, K>, MontyQuartic<P, K>>(
-        alloc, &sizes, &plan, max_degree,
-    )?;
+    let sizes = sizes_of(alloc, &airs)?;
+    let plan = report_plan::<F, EF>(alloc, &sizes, &plan, max_degree)?;
     Ok(Report {
         plan,
         counts,
@@ -70,7 +66,7 @@ pub fn judge<const P: u32, K: QuarticParameters<P>>(
 }
 
 /// The lookups and the sizes of these AIRs.
-fn sizes_of<'a, F: Field>(
+pub(crate) fn sizes_of<'a, F: Field>(
     alloc: Global,
     airs: &'a [AirOver<F>],
 ) -> Result<Vec<SizedAir<'a, F>>, AllocError>
@@ -88,7 +84,7 @@ fn sizes_of<'a, F: Field>(
 }
 
 /// The traces of these AIRs, as a plan takes them.
-fn traces_of<'a, F: Field>(
+pub(crate) fn traces_of<'a, F: Field>(
     alloc: Global,
     airs: &'a [AirOver<F>],
 ) -> Result<Vec<BatchTrace<'a, F>>, AllocError>

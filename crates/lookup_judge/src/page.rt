@@ -1,5 +1,5 @@
 //! Text that grows, and lines whose cells stand below each other.
-ghost use Rattle.std.specs.Prelude.{◌≡◌, ◌++◌, OnOk};
+ghost use Rattle.std.specs.Prelude.{◌≡◌, ◌++◌, [], OnOk};
 
 use std::alloc::{AllocError, Global};
 
@@ -12,7 +12,9 @@ pub(crate) struct Page {
 
 impl Page {
     /// An empty page.
-    pub(crate) fn new(alloc: Global) -> Page {
+    pub(crate) fn new(alloc: Global) -> Page
+        ensures { result.bytes.items ≡ [] }
+    {
         Page {
             alloc,
             bytes: Vec::new(alloc),

@@ -3,7 +3,7 @@ ghost use Rattle.std.specs.Prelude.{◌≡◌, IfOk, List, Ok, length, map};
 ghost use Rattle.std.specs.List.{AllZip};
 ghost use Rattle.batch.specs.Plans.{Plan};
 ghost use Rattle.batch.specs.Runs.{plan_of};
-ghost use Rattle.field.specs.Residue.{Residue, residue_of};
+ghost use Rattle.field.specs.Ring.{of_nat};
 ghost use Rattle.lookup.specs.Lookups.{lookups_of};
 ghost use Rattle.lookup_files.specs.Shapes.{shape_of};
 ghost use Rattle.lookup_judge.specs.Found.{IsPlanFound, IsPlanOf, sized_over};
@@ -19,7 +19,7 @@ use crate::fault::JudgeFault;
 use crate::report::PlanReport;
 use crate::sizes::{SizedAir, height_sum, reports_of};
 use batch::BatchPlan;
-use field::{ExtensionField, Field, MontyField31, MontyQuartic, Over, QuarticParameters};
+use field::{ExtensionField, Field, Over};
 use lookup::Lookups;
 use lookup_files::AirShape;
 use lookup_names::{NamedAir, check_buses};
@@ -32,38 +32,38 @@ use std::alloc::{AllocError, Global};
 /// Refuses, in this order: a bus that is declared twice; another number of shapes than of AIRs; then AIR by
 /// AIR the faults of `lookups_of`; AIR by AIR those of `lookups_over`; then what `BatchPlan::new`
 /// and `BatchPlan::soundness_of_heights` refuse. Also fails when out of memory.
-pub fn judge_plan<const P: u32, K: QuarticParameters<P>>(
+pub fn judge_plan<F: Field, EF: ExtensionField<F>>(
     alloc: Global,
     text: &[u8],
     batch: &BatchText,
     shapes: &[AirShape],
     max_degree: usize,
 ) -> Result<PlanReport, JudgeFault>
-    ensures { let E = ⟦<MontyQuartic<P, K> as Over<MontyField31<P, K>>>⟧.fields in
+    ensures { let E = ⟦<EF as Over<F>>⟧.fields in
         let sections = map section_of batch.now.sections.items in
         let sizes = map shape_of shapes.now in
         IfOk result (λ report. (distinct_buses text.now sections ≡ Ok tt)
-        × (said : List Said) × (lookups : List (List (Lookup (Residue P))))
-        × (plan : Plan (Residue P))
+        × (said : List Said) × (lookups : List (List (Lookup (F))))
+        × (plan : Plan (F))
         × SayOver text.now sections 1048576 (airs_of sections) sizes said
-        × AllZip (AreLookupsOf (residue_of P K.positive) text.now) said lookups
-        × IsPlanFound E P max_degree (sized_over lookups sizes) plan report) }
+        × AllZip (AreLookupsOf (of_nat F.ring) text.now) said lookups
+        × IsPlanFound E F.CHARACTERISTIC max_degree (sized_over lookups sizes) plan report) }
 {
     check_buses(text, batch)?;
     let named = airs_named(alloc, text, batch, shapes)?;
-    let sets = sets_over::<P, K>(alloc, text, &named)?;
+    let sets = sets_over(alloc, text, &named)?;
     let airs = sized_airs(alloc, &sets, shapes)?;
     let plan = plan_over(alloc, &airs)?;
-    report_plan::<MontyField31<P, K>, MontyQuartic<P, K>>(alloc, &airs, &plan, max_degree)
+    report_plan::<F, EF>(alloc, &airs, &plan, max_degree)
 }
 
 /// The lookups of each AIR over a field.
-pub(crate) fn sets_over<const P: u32, K: QuarticParameters<P>>(
+pub(crate) fn sets_over<F: Field>(
     alloc: Global,
     text: &[u8],
     named: &[NamedAir],
-) -> Result<Vec<Lookups<MontyField31<P, K>>>, JudgeFault>
-    ensures { IfOk result (λ v. AllZip (λ air set. AreLookupsOf (residue_of P K.positive) text.now
+) -> Result<Vec<Lookups<F>>, JudgeFault>
+    ensures { IfOk result (λ v. AllZip (λ air set. AreLookupsOf (of_nat F.ring) text.now
         (said_of air) (lookups_of set)) named.now v.items) }
 {
     let mut sets = Vec::new(alloc);

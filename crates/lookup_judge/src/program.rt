@@ -1,30 +1,37 @@
 //! A run of the program, from its words and files to its status.
-ghost use Rattle.std.specs.Prelude.{◌≡◌, ◌⊎◌, IfOk, OnOk, Result, cond, map, true};
+ghost use Rattle.std.specs.Prelude.{◌≡◌, ◌⊎◌, ◌↔◌, ◌-◌, ◌*◌, IfOk, IsTrue, OnOk, Result, cond, map, true};
 ghost use Rattle.std.specs.Io.KnownBytes.{Appends};
 ghost use Rattle.std.specs.Process.{exit_status};
 ghost use Rattle.std.specs.String.{string_bytes};
 ghost use Rattle.lookup_files.specs.Files.{named_of};
-ghost use Rattle.lookup_judge.specs.Runs.{AnswersTo, Ends, IsAnswer, IsPlannedOver, IsVerdictOver};
+ghost use Rattle.lookup_judge.specs.Bits.{MeetsTarget, alphas_of, challenges_of};
+ghost use Rattle.lookup_judge.specs.Runs.{AnswersIn, AnswersTo, Ends, IsAnswer};
 
-use crate::bits::push_bits_table;
-use crate::commands::{Given, check, plan, show};
+use crate::bits::{Deceiving, push_bits_table, push_target};
+use crate::commands::{Given, answer_over};
+use crate::json::push_bits_json;
 use crate::page::Page;
 use crate::refusal::RunRefusal;
-use field::{
-    BabyBear, BabyBear4, BabyBearParameters, KoalaBear, KoalaBear4, KoalaBearParameters, Over,
-};
+use field::{BabyBear, BabyBear4, F7, KoalaBear, KoalaBear4};
+use field_words::Written;
+use goldilocks::{Goldilocks, Goldilocks2};
 use lookup_files::NamedFile;
-use lookup_words::{Asked, FieldName, WordsRefusal, asked};
+use lookup_words::{Asked, BatchRequest, BitsRequest, FieldName, WordsRefusal, asked};
 use std::alloc::Global;
 use std::io;
 use std::io::Write;
 use std::process::ExitCode;
 
-/// The characteristic of BabyBear.
-const BABY_BEAR: u32 = 2_013_265_921;
-
-/// That of KoalaBear.
-const KOALA_BEAR: u32 = 2_130_706_433;
+/// The bytes of the files that a run reads.
+#[derive(Clone, Copy)]
+pub struct Inputs<'a> {
+    /// The file with the text of the batch.
+    pub text: &'a [u8],
+    /// The files that it names in turn; see `lookup_files::files_of`.
+    pub files: &'a [NamedFile],
+    /// The file with the witness, for `accept`.
+    pub witness: &'a [u8],
+}
 
 /// What a run answers: a text, and whether it says yes.
 #[derive(Debug, Drop)]
@@ -45,29 +52,33 @@ impl Answer {
     }
 }
 
-/// Runs the words of a command line over the bytes of the file that they name and of the files that
-/// it names in turn; see `lookup_words::asked` and `lookup_files::files_of`.
+/// Runs the words of a command line over the bytes of the files that they name; see
+/// `lookup_words::asked`.
 ///
 /// Writes the answer to `output`. If the run is refused, it writes why to `errors`, and nothing to
-/// `output`. The status is 0 if the answer is yes, 1 if it is no, and 2 if the run is refused or a
-/// write fails. The answer to `check` is whether all messages balance; to the other commands it is
-/// yes.
+/// `output`; so it does if the answer cannot be written, of which a part may be in `output`. The
+/// status is 0 if the answer is yes, 1 if it is no, and 2 if the run is refused or a write fails. The
+/// answer to `check` is whether all messages balance, to `plan` and `bits` whether
+/// as many bits are left as are wanted, to `accept` whether the witness is accepted, and to `any`
+/// whether any is; to the other commands it is yes.
 pub fn run<W: Write, E: Write>(
     alloc: Global,
     words: &[String],
-    text: &[u8],
-    files: &[NamedFile],
+    inputs: Inputs<'_>,
     output: &mut W,
     errors: &mut E,
 ) -> ExitCode
-    ensures { let B = ⟦<BabyBear4 as Over<BabyBear>>⟧.fields in
-        let K = ⟦<KoalaBear4 as Over<KoalaBear>>⟧.fields in
+    ensures { let S = ⟦<F7 as Written<F7>>⟧.fields in
+        let B = ⟦<BabyBear4 as Written<BabyBear>>⟧.fields in
+        let K = ⟦<KoalaBear4 as Written<KoalaBear>>⟧.fields in
+        let G = ⟦<Goldilocks2 as Written<Goldilocks>>⟧.fields in
         (answer : Result Answer RunRefusal)
-        × IfOk answer (IsAnswer B K (map string_bytes words.now) text.now (map named_of files.now))
+        × IfOk answer (IsAnswer S B K G (map string_bytes words.now) inputs.entry.text.now
+        (map named_of inputs.entry.files.now) inputs.entry.witness.now)
         × Ends W.contents answer (exit_status result) output.old output.new errors.old errors.new }
 {
-    match answer_of(alloc, words, text, files) {
-        Ok(answer) => write_answer(&answer, output),
+    match answer_of(alloc, words, inputs) {
+        Ok(answer) => write_answer(&answer, output, errors),
         Err(refusal) => refuse(refusal, errors),
     }
 }
@@ -83,13 +94,14 @@ pub fn refuse<E: Write>(refusal: RunRefusal, errors: &mut E) -> ExitCode
     ExitCode::from(2)
 }
 
-/// Writes an answer to `output`.
-fn write_answer<W: Write>(answer: &Answer, output: &mut W) -> ExitCode
+/// Writes an answer to `output`, or to `errors` that it cannot be written.
+fn write_answer<W: Write, E: Write>(answer: &Answer, output: &mut W, errors: &mut E) -> ExitCode
     ensures { ((exit_status result ≡ cond answer.now.yes 0 1)
-        × Appends (W.contents output.old) (W.contents output.new) answer.now.text.items)
-        ⊎ (exit_status result ≡ 2) }
+        × Appends (W.contents output.old) (W.contents output.new) answer.now.text.items
+        × (errors.new ≡ errors.old)) ⊎ (exit_status result ≡ 2) }
 {
     if write_and_flush(answer.text.as_slice(), output).is_err() {
+        let _ = errors.write_all(b"error: the answer cannot be written\n");
         return ExitCode::from(2);
     }
     if answer.yes {
@@ -107,18 +119,16 @@ fn write_and_flush<W: Write>(bytes: &[u8], output: &mut W) -> io::Result<()>
 }
 
 /// What a run answers to its words.
-fn answer_of(
-    alloc: Global,
-    words: &[String],
-    text: &[u8],
-    files: &[NamedFile],
-) -> Result<Answer, RunRefusal>
-    ensures { let B = ⟦<BabyBear4 as Over<BabyBear>>⟧.fields in
-        let K = ⟦<KoalaBear4 as Over<KoalaBear>>⟧.fields in
-        IfOk result (IsAnswer B K (map string_bytes words.now) text.now (map named_of files.now)) }
+fn answer_of(alloc: Global, words: &[String], inputs: Inputs<'_>) -> Result<Answer, RunRefusal>
+    ensures { let S = ⟦<F7 as Written<F7>>⟧.fields in
+        let B = ⟦<BabyBear4 as Written<BabyBear>>⟧.fields in
+        let K = ⟦<KoalaBear4 as Written<KoalaBear>>⟧.fields in
+        let G = ⟦<Goldilocks2 as Written<Goldilocks>>⟧.fields in
+        IfOk result (IsAnswer S B K G (map string_bytes words.now) inputs.entry.text.now
+        (map named_of inputs.entry.files.now) inputs.entry.witness.now) }
 {
     match asked(alloc, words) {
-        Ok(asked) => answer_to(alloc, asked, text, files),
+        Ok(asked) => answer_to(alloc, asked, inputs),
         Err(WordsRefusal::Memory) => Err(RunRefusal::Memory),
         Err(WordsRefusal::Told(text)) => Err(RunRefusal::Told(text.into_bytes())),
         Err(WordsRefusal::Help(text)) => Ok(Answer {
@@ -129,110 +139,81 @@ fn answer_of(
 }
 
 /// The answer to what is asked.
-fn answer_to(
-    alloc: Global,
-    asked: Asked<'_>,
-    text: &[u8],
-    files: &[NamedFile],
-) -> Result<Answer, RunRefusal>
-    ensures { let B = ⟦<BabyBear4 as Over<BabyBear>>⟧.fields in
-        let K = ⟦<KoalaBear4 as Over<KoalaBear>>⟧.fields in
-        IfOk result (AnswersTo B K asked.entry text.now (map named_of files.now)) }
+fn answer_to(alloc: Global, asked: Asked<'_>, inputs: Inputs<'_>) -> Result<Answer, RunRefusal>
+    ensures { let S = ⟦<F7 as Written<F7>>⟧.fields in
+        let B = ⟦<BabyBear4 as Written<BabyBear>>⟧.fields in
+        let K = ⟦<KoalaBear4 as Written<KoalaBear>>⟧.fields in
+        let G = ⟦<Goldilocks2 as Written<Goldilocks>>⟧.fields in
+        IfOk result (AnswersTo S B K G asked.entry inputs.entry.text.now
+        (map named_of inputs.entry.files.now) inputs.entry.witness.now) }
 {
     match asked {
-        Asked::Check {
-            file,
-            field,
-            limit,
-            degree,
-        } => check_in(alloc, Given::new(file, text, files), field, limit, degree),
-        Asked::Plan {
-            file,
-            field,
-            degree,
-        } => plan_in(alloc, Given::new(file, text, files), field, degree, false),
-        Asked::Pack {
-            file,
-            field,
-            degree,
-        } => plan_in(alloc, Given::new(file, text, files), field, degree, true),
-        Asked::Show { file, field, json } => {
-            show_in(alloc, Given::new(file, text, files), field, json)
-        }
-        Asked::Bits {
-            messages,
-            unbalanced,
-            width,
-        } => bits(alloc, messages, unbalanced, width),
+        Asked::Batch(request) => answer_in(alloc, request, inputs),
+        Asked::Bits(request) => bits(alloc, request),
     }
 }
 
-/// `check` over this field.
-fn check_in(
+/// The answer to a request about a batch, over its field.
+fn answer_in(
     alloc: Global,
-    given: Given<'_>,
-    field: FieldName,
-    limit: usize,
-    max_degree: usize,
+    request: BatchRequest<'_>,
+    inputs: Inputs<'_>,
 ) -> Result<Answer, RunRefusal>
-    ensures { let B = ⟦<BabyBear4 as Over<BabyBear>>⟧.fields in
-        let K = ⟦<KoalaBear4 as Over<KoalaBear>>⟧.fields in
-        IfOk result (IsVerdictOver B K field max_degree given.entry.text.now
-        (map named_of given.entry.files.now)) }
+    ensures { let S = ⟦<F7 as Written<F7>>⟧.fields in
+        let B = ⟦<BabyBear4 as Written<BabyBear>>⟧.fields in
+        let K = ⟦<KoalaBear4 as Written<KoalaBear>>⟧.fields in
+        let G = ⟦<Goldilocks2 as Written<Goldilocks>>⟧.fields in
+        IfOk result (AnswersIn S B K G request.entry.field request.entry.task
+        inputs.entry.text.now (map named_of inputs.entry.files.now) inputs.entry.witness.now) }
 {
+    let BatchRequest {
+        file,
+        field,
+        task,
+        ..
+    } = request;
+    let Inputs {
+        text,
+        files,
+        witness,
+    } = inputs;
+    let given = Given {
+        file: file.as_bytes(),
+        text,
+        files,
+        witness,
+    };
     match field {
+        FieldName::F7 => answer_over::<F7, F7>(alloc, given, FieldName::F7, task),
         FieldName::BabyBear4 => {
-            check::<BABY_BEAR, BabyBearParameters>(alloc, given, field, limit, max_degree)
+            answer_over::<BabyBear, BabyBear4>(alloc, given, FieldName::BabyBear4, task)
         }
         FieldName::KoalaBear4 => {
-            check::<KOALA_BEAR, KoalaBearParameters>(alloc, given, field, limit, max_degree)
+            answer_over::<KoalaBear, KoalaBear4>(alloc, given, FieldName::KoalaBear4, task)
+        }
+        FieldName::Goldilocks2 => {
+            answer_over::<Goldilocks, Goldilocks2>(alloc, given, FieldName::Goldilocks2, task)
         }
     }
 }
 
 /// `bits`, by these counts alone.
-fn bits(alloc: Global, messages: u64, unbalanced: u64, width: u64) -> Result<Answer, RunRefusal>
-    ensures { IfOk result (λ answer. answer.yes ≡ true) }
+fn bits(alloc: Global, request: BitsRequest) -> Result<Answer, RunRefusal>
+    ensures { IfOk result (λ answer. IsTrue answer.yes
+        ↔ MeetsTarget (challenges_of request.field) request.target
+        (request.width * (request.unbalanced - 1))
+        (alphas_of request.messages request.unbalanced)) }
 {
+    let yes = Deceiving::of_request(request).meets(request.field, request.target);
     let mut page = Page::new(alloc);
-    push_bits_table(&mut page, messages, unbalanced, width)?;
-    Ok(Answer::of_page(page))
-}
-
-/// `plan` or `pack` over this field.
-fn plan_in(
-    alloc: Global,
-    given: Given<'_>,
-    field: FieldName,
-    max_degree: usize,
-    airs_alone: bool,
-) -> Result<Answer, RunRefusal>
-    ensures { let B = ⟦<BabyBear4 as Over<BabyBear>>⟧.fields in
-        let K = ⟦<KoalaBear4 as Over<KoalaBear>>⟧.fields in
-        IfOk result (IsPlannedOver B K field max_degree given.entry.text.now
-        (map named_of given.entry.files.now)) }
-{
-    match field {
-        FieldName::BabyBear4 => {
-            plan::<BABY_BEAR, BabyBearParameters>(alloc, given, field, max_degree, airs_alone)
-        }
-        FieldName::KoalaBear4 => {
-            plan::<KOALA_BEAR, KoalaBearParameters>(alloc, given, field, max_degree, airs_alone)
-        }
+    if request.json {
+        push_bits_json(&mut page, request, yes)?;
+    } else {
+        push_bits_table(&mut page, request)?;
+        push_target(&mut page, request.target, yes)?;
     }
-}
-
-/// `show` over this field.
-fn show_in(
-    alloc: Global,
-    given: Given<'_>,
-    field: FieldName,
-    json: bool,
-) -> Result<Answer, RunRefusal>
-    ensures { IfOk result (λ answer. answer.yes ≡ true) }
-{
-    match field {
-        FieldName::BabyBear4 => show::<BABY_BEAR, BabyBearParameters>(alloc, given, json),
-        FieldName::KoalaBear4 => show::<KOALA_BEAR, KoalaBearParameters>(alloc, given, json),
-    }
+    Ok(Answer {
+        text: page.bytes,
+        yes,
+    })
 }

@@ -12,7 +12,7 @@ use batch::BatchError;
 use lookup::LookupError;
 use lookup::debug_util::FitFault;
 use lookup_elements::ElementWhy;
-use lookup_files::{NamedFile, TableRefusal, TableWhy};
+use lookup_files::{TableRefusal, TableWhy, content_of};
 use lookup_names::bytes_of;
 use lookup_text::{BatchText, Fault, Span, place_of};
 use std::alloc::{AllocError, AllocFailed, Global};
@@ -50,6 +50,38 @@ impl RunRefusal {
         page.word(": error: ")?;
         page.word(what)?;
         page.word("\n")?;
+        Ok(RunRefusal::Told(page.bytes))
+    }
+
+    /// A word that writes no challenge, which is the value of an option.
+    pub(crate) fn of_challenge(
+        alloc: Global,
+        field: &str,
+        option: &str,
+        word: &str,
+    ) -> Result<RunRefusal, AllocError> {
+        let mut page = Page::new(alloc);
+        page.word("error: '--")?;
+        page.word(option)?;
+        page.word("' is no element of ")?;
+        page.word(field)?;
+        page.word(": ")?;
+        page.shown(word.as_bytes())?;
+        page.word("\n")?;
+        Ok(RunRefusal::Told(page.bytes))
+    }
+
+    /// A line of a file that is not as a witness is written.
+    pub(crate) fn of_witness(
+        alloc: Global,
+        file: &str,
+        line: usize,
+    ) -> Result<RunRefusal, AllocError> {
+        let mut page = Page::new(alloc);
+        page.shown(file.as_bytes())?;
+        page.word(":")?;
+        page.number(line as u128)?;
+        page.word(": error: this line is not as a witness is written\n")?;
         Ok(RunRefusal::Told(page.bytes))
     }
 
@@ -100,7 +132,12 @@ impl RunRefusal {
         given: Given<'_>,
         refusal: TableRefusal,
     ) -> Result<RunRefusal, AllocError> {
-        let Given { file, text, files } = given;
+        let Given {
+            file,
+            text,
+            files,
+            ..
+        } = given;
         let TableRefusal {
             file: named,
             at,
@@ -122,7 +159,8 @@ impl RunRefusal {
                     None => file,
                 };
                 let fault = Fault { at, why };
-                return RunRefusal::of_text(alloc, name, content_of(files, name), fault);
+                let content = content_of(files, name).unwrap_or(&[]);
+                return RunRefusal::of_text(alloc, name, content, fault);
             }
         };
         RunRefusal::at(alloc, file, text, at, what)
@@ -166,7 +204,7 @@ impl RunRefusal {
     }
 
     /// Why the lookups of the AIR with this number are refused: at a row of its table, where the
-    /// flags of a row are at fault, and else at its name.
+    /// flags or the denominators of a row are at fault, and else at its name.
     fn of_air(
         alloc: Global,
         file: &[u8],
@@ -175,12 +213,20 @@ impl RunRefusal {
         air: usize,
         error: &LookupError,
     ) -> Result<RunRefusal, AllocError> {
-        let (row, lookup, what) = match error {
+        let (row, lookup, which, what) = match error {
             LookupError::FlagNotBoolean { row, lookup } => {
-                (*row, *lookup, " is neither 0 nor 1 on this row\n")
+                (*row, *lookup, "a flag", " is neither 0 nor 1 on this row\n")
             }
             LookupError::FlagsNotExclusive { row, lookup } => {
-                (*row, *lookup, " is 1 on this row, and so is another one\n")
+                (
+                    *row,
+                    *lookup,
+                    "a flag",
+                    " is 1 on this row, and so is another one\n",
+                )
+            }
+            LookupError::VanishingDenominator { row, lookup } => {
+                (*row, *lookup, "a denominator", " is zero on this row\n")
             }
             other => {
                 let what = format!(in alloc; "{other}")?;
@@ -192,7 +238,9 @@ impl RunRefusal {
         page.shown(file_of(text, batch, air, false))?;
         page.word(":")?;
         page.number(row as u128 + 2)?;
-        page.word(": error: a flag of ")?;
+        page.word(": error: ")?;
+        page.word(which)?;
+        page.word(" of ")?;
         page.shown(file)?;
         page.word(":")?;
         page.number(line_of(text, batch, air, lookup) as u128)?;
@@ -248,17 +296,4 @@ fn fit_text(fault: FitFault) -> &'static str {
             "the lookups of this AIR do not fit its tables"
         }
     }
-}
-
-/// What the first file with a name holds.
-fn content_of<'a>(files: &'a [NamedFile], name: &[u8]) -> &'a [u8] {
-    for file in files {
-        if file.name.as_slice() == name {
-            return match &file.content {
-                Some(content) => content.as_slice(),
-                None => &[],
-            };
-        }
-    }
-    &[]
 }

@@ -1,4 +1,7 @@
 //! What is found of a batch.
+ghost use Rattle.std.specs.Prelude.{◌≡◌};
+
+use crate::bits::Deceiving;
 use batch::HeightSoundness;
 use checker::SoundnessCount;
 use lookup::debug_util::BusGroup;
@@ -34,6 +37,19 @@ pub struct PlanReport {
     pub heights: HeightSoundness,
 }
 
+impl PlanReport {
+    /// At how few challenges a batch that does not balance is accepted, whatever its traces hold.
+    pub(crate) fn for_all_traces(&self) -> Deceiving
+        ensures { (result.betas ≡ self.now.heights.bad_betas)
+            × (result.alphas ≡ self.now.heights.accepting_alphas) }
+    {
+        Deceiving {
+            betas: self.heights.bad_betas,
+            alphas: self.heights.accepting_alphas,
+        }
+    }
+}
+
 /// What is found of a batch over traces, over a field with elements `F`.
 #[derive(Debug, Drop)]
 pub struct Report<F> {
@@ -45,4 +61,14 @@ pub struct Report<F> {
     pub groups: Vec<BusGroup<F>>,
     /// Whether all messages balance.
     pub balanced: bool,
+}
+
+impl<F> Report<F> {
+    /// At how few challenges the batch is accepted over these traces, if it does not balance.
+    pub(crate) fn for_these_traces(&self) -> Deceiving {
+        Deceiving {
+            betas: self.counts.linear_bad_betas(),
+            alphas: self.counts.accepting_alphas,
+        }
+    }
 }

@@ -3,14 +3,14 @@ ghost use Rattle.std.specs.Prelude.{◌≡◌, ◌++◌, ℕ, List, OnOk};
 ghost use Rattle.lookup_judge.specs.Runs.{verdict_line};
 
 use crate::bits::push_bits;
+use crate::fields::TableField;
 use crate::page::{Page, head, number_cell, numbers_cell, shown_cell, word_cell};
 use crate::report::{AirReport, PlanReport, Report};
 use crate::unbalanced::push_unbalanced;
-use crate::words::{air_at, bus_named};
-use field::{MontyField31, MontyParameters};
+use crate::words::bus_named;
 use lookup::debug_util::{BusGroup, GroupName};
 use lookup_names::bytes_of;
-use lookup_text::BatchText;
+use lookup_text::{AirText, BatchText};
 use lookup_words::FieldName;
 use std::alloc::AllocError;
 
@@ -20,6 +20,8 @@ pub(crate) struct Told<'a> {
     /// The text of the batch.
     pub(crate) text: &'a [u8],
     pub(crate) batch: &'a BatchText,
+    /// Its AIRs, in their order.
+    pub(crate) airs: &'a [&'a AirText],
     pub(crate) field: FieldName,
     /// How many unbalanced tuples of a bus are told, and how many places of a tuple.
     pub(crate) limit: usize,
@@ -28,10 +30,10 @@ pub(crate) struct Told<'a> {
 }
 
 /// Appends a report of a batch over its traces.
-pub(crate) fn push_report<const P: u32, K: MontyParameters<P>>(
+pub(crate) fn push_report<F: TableField>(
     page: &mut Page,
     told: Told<'_>,
-    report: &Report<MontyField31<P, K>>,
+    report: &Report<F>,
 ) -> Result<(), AllocError>
     ensures { OnOk result ((front : List ℕ)
         × (page.new.bytes.items ≡ front ++ verdict_line report.now.balanced)) }
@@ -76,10 +78,7 @@ pub(crate) fn push_airs(
     let mut lines = Vec::new(alloc);
     lines.push(head(alloc, &titles)?)?;
     for (index, air) in airs.iter().enumerate() {
-        let name = match air_at(told.batch, index) {
-            Some(said) => bytes_of(told.text, said.name),
-            None => &[],
-        };
+        let name = air_name(told, index);
         let mut cells = Vec::new(alloc);
         cells.push(shown_cell(alloc, name)?)?;
         cells.push(number_cell(alloc, air.rows as u128)?)?;
@@ -92,6 +91,14 @@ pub(crate) fn push_airs(
         lines.push(cells)?;
     }
     page.table(&lines, &[false, true, true, true, true, false, true, false])
+}
+
+/// The name of the AIR with this number.
+pub(crate) fn air_name(told: Told<'_>, air: usize) -> &[u8] {
+    match told.airs.get(air) {
+        Some(said) => bytes_of(told.text, said.name),
+        None => &[],
+    }
 }
 
 /// Appends the height bound.
@@ -153,9 +160,7 @@ pub(crate) fn group_cell(
         GroupName::Bus(name) => cell.shown(name.as_bytes())?,
         GroupName::Local { instance, lookup } => {
             cell.word("local ")?;
-            if let Some(air) = air_at(told.batch, *instance) {
-                cell.shown(bytes_of(told.text, air.name))?;
-            }
+            cell.shown(air_name(told, *instance))?;
             cell.word(" ")?;
             cell.number(*lookup as u128)?;
         }
@@ -185,39 +190,38 @@ fn push_soundness<F>(
     told: Told<'_>,
     report: &Report<F>,
 ) -> Result<(), AllocError> {
-    let counts = &report.counts;
     page.word("\nSOUNDNESS\n  these traces: n = ")?;
-    page.grouped(counts.messages)?;
+    page.grouped(report.counts.messages)?;
     page.word(" distinct messages, k = ")?;
-    page.grouped(counts.unbalanced)?;
+    page.grouped(report.counts.unbalanced)?;
     page.word(" of them unbalanced, widest tuple W = ")?;
     page.grouped(report.plan.widest as u128)?;
     page.word("\n")?;
-    if let Some(alphas) = counts.accepting_alphas {
-        let betas = counts.linear_bad_betas();
+    let deceiving = report.for_these_traces();
+    if let Some(alphas) = deceiving.alphas {
         page.word("    all but ")?;
-        page.grouped(betas)?;
+        page.grouped(deceiving.betas)?;
         page.word(" betas leave at most ")?;
         page.grouped(alphas)?;
         page.word(" alphas at which any witness is accepted\n")?;
-        push_bits(page, told.field, betas, alphas)?;
+        push_bits(page, told.field, deceiving)?;
     }
     push_all_traces(page, told, &report.plan)
 }
 
 /// Appends how many challenges may deceive, whatever the traces are.
 fn push_all_traces(page: &mut Page, told: Told<'_>, report: &PlanReport) -> Result<(), AllocError> {
-    let heights = &report.heights;
     page.word("  whatever traces of these heights a prover picks: at most ")?;
-    page.grouped(heights.most_messages)?;
+    page.grouped(report.heights.most_messages)?;
     page.word(" messages\n")?;
-    if let Some(alphas) = heights.accepting_alphas {
+    let deceiving = report.for_all_traces();
+    if let Some(alphas) = deceiving.alphas {
         page.word("    if they do not balance, all but ")?;
-        page.grouped(heights.bad_betas)?;
+        page.grouped(deceiving.betas)?;
         page.word(" betas leave at most ")?;
         page.grouped(alphas)?;
         page.word(" alphas\n")?;
-        push_bits(page, told.field, heights.bad_betas, alphas)?;
+        push_bits(page, told.field, deceiving)?;
     }
     Ok(())
 }

@@ -1,11 +1,13 @@
 //! Lookups as they are understood, in the words of the language.
+use crate::airs::airs_of;
+use crate::json::push_object;
 use crate::mark::is_name;
-use crate::page::{Page, head, number_cell, shown_cell, word_cell};
-use crate::words::{air_at, public_name};
+use crate::page::{Page, head, number_cell, numbers_cell, shown_cell, word_cell};
+use crate::words::{Lines, public_name};
 use lookup::Lookups;
 use lookup_files::AirShape;
 use lookup_names::{NamedAir, NamedLookup, NamedPart, Value, bytes_of};
-use lookup_text::{AirText, BatchText, place_of};
+use lookup_text::{AirText, BatchText};
 use serde::Serialize;
 use std::alloc::AllocError;
 
@@ -41,14 +43,14 @@ pub(crate) fn push_lookups(
     shapes: &[AirShape],
     airs: &[NamedAir],
 ) -> Result<(), AllocError> {
-    for (index, (named, shape)) in airs.iter().zip(shapes).enumerate() {
-        let Some(air) = air_at(batch, index) else {
-            return Ok(());
-        };
+    let said = airs_of(page.alloc(), batch)?;
+    let mut lines = Lines::of(text);
+    for (index, ((air, named), shape)) in said.iter().zip(airs).zip(shapes).enumerate() {
         if index > 0 {
             page.word("\n")?;
         }
-        push_air(page, Called { text, air, shape }, named)?;
+        let air = *air;
+        push_air(page, Called { text, air, shape }, named, &mut lines)?;
     }
     Ok(())
 }
@@ -60,23 +62,22 @@ pub(crate) fn push_json<F: Serialize>(
     batch: &BatchText,
     sets: &[Lookups<F>],
 ) -> Result<(), AllocError> {
+    let said = airs_of(page.alloc(), batch)?;
     let mut airs = Vec::new(page.alloc());
-    for (index, lookups) in sets.iter().enumerate() {
-        let name = match air_at(batch, index) {
-            Some(air) => str::from_utf8(bytes_of(text, air.name)).ok(),
-            None => None,
-        };
+    for (air, lookups) in said.iter().zip(sets) {
+        let name = str::from_utf8(bytes_of(text, air.name)).ok();
         airs.push(ShownAir { name, lookups })?;
     }
-    match serde_json::to_string(page.alloc(), &airs) {
-        Ok(json) => page.word(json.as_str())?,
-        Err(_) => return Err(AllocError),
-    }
-    page.word("\n")
+    push_object(page, &airs)
 }
 
 /// Appends the lookups of an AIR.
-fn push_air(page: &mut Page, called: Called<'_>, named: &NamedAir) -> Result<(), AllocError> {
+fn push_air(
+    page: &mut Page,
+    called: Called<'_>,
+    named: &NamedAir,
+    text_lines: &mut Lines<'_>,
+) -> Result<(), AllocError> {
     let alloc = page.alloc();
     page.shown(bytes_of(called.text, called.air.name))?;
     page.word(" (rows: ")?;
@@ -91,7 +92,8 @@ fn push_air(page: &mut Page, called: Called<'_>, named: &NamedAir) -> Result<(),
     lines.push(head(alloc, &titles)?)?;
     for (index, lookup) in named.lookups.iter().enumerate() {
         for part in &lookup.parts {
-            lines.push(part_line(page, called, index, lookup, part)?)?;
+            let line = text_lines.line_of(part.message.at);
+            lines.push(part_line(page, called, index, lookup, part, line)?)?;
         }
     }
     page.table(&lines, &[true, true, false, false, false, false, true])
@@ -105,12 +107,12 @@ fn part_line(
     index: usize,
     lookup: &NamedLookup,
     part: &NamedPart,
+    line: usize,
 ) -> Result<Vec<Vec<u8>>, AllocError> {
     let alloc = page.alloc();
-    let line = place_of(called.text, part.message.at).line;
     let mut cells = Vec::new(alloc);
     cells.push(number_cell(alloc, index as u128)?)?;
-    cells.push(number_cell(alloc, line as u128)?)?;
+    cells.push(numbers_cell(alloc, &[line])?)?;
     cells.push(match lookup.bus {
         Some(bus) => shown_cell(alloc, bytes_of(called.text, bus))?,
         None => word_cell(alloc, "local")?,
@@ -146,7 +148,7 @@ fn value_cell(page: &Page, called: Called<'_>, value: &Value) -> Result<Vec<u8>,
     Ok(cell.bytes)
 }
 
-/// Appends an expression. Read again, it means the same.
+/// Appends an expression, with the parentheses that it needs to be read as it is.
 fn push_value(
     page: &mut Page,
     called: Called<'_>,

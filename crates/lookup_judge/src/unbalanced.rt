@@ -1,18 +1,18 @@
 //! The tuples that do not balance, with the names and lines of their author.
+use crate::fields::TableField;
 use crate::page::{Page, characters};
 use crate::sections::{Told, group_cell};
-use crate::words::{air_at, bus_named, first_word, lookup_at, trace_file};
-use field::{MontyField31, MontyParameters, PrimeCharacteristicRing};
+use crate::words::{bus_named, first_word, lookup_at, trace_file};
 use lookup::debug_util::{BusGroup, GroupName, Location, SignedField, UnbalancedTuple};
 use lookup_names::bytes_of;
 use lookup_text::{Span, place_of};
 use std::alloc::AllocError;
 
 /// Appends the first unbalanced tuples of each group, at most as many as are told.
-pub(crate) fn push_unbalanced<const P: u32, K: MontyParameters<P>>(
+pub(crate) fn push_unbalanced<F: TableField>(
     page: &mut Page,
     told: Told<'_>,
-    groups: &[BusGroup<MontyField31<P, K>>],
+    groups: &[BusGroup<F>],
 ) -> Result<(), AllocError> {
     for group in groups {
         for tuple in group.first.iter().take(told.limit) {
@@ -35,11 +35,11 @@ pub(crate) fn push_unbalanced<const P: u32, K: MontyParameters<P>>(
 }
 
 /// Appends an unbalanced tuple with the first of its places, at most as many as are told.
-fn push_tuple<const P: u32, K: MontyParameters<P>>(
+fn push_tuple<F: TableField>(
     page: &mut Page,
     told: Told<'_>,
     group: &GroupName,
-    tuple: &UnbalancedTuple<MontyField31<P, K>>,
+    tuple: &UnbalancedTuple<F>,
 ) -> Result<(), AllocError> {
     page.word("\nUNBALANCED on ")?;
     let name = group_cell(page, told, group)?;
@@ -61,11 +61,11 @@ fn push_tuple<const P: u32, K: MontyParameters<P>>(
 }
 
 /// Appends the values of a tuple, each with its name where its bus declares one.
-fn push_values<const P: u32, K: MontyParameters<P>>(
+fn push_values<F: TableField>(
     page: &mut Page,
     told: Told<'_>,
     group: &GroupName,
-    tuple: &[MontyField31<P, K>],
+    tuple: &[F],
 ) -> Result<(), AllocError> {
     page.word("(")?;
     for (index, value) in tuple.iter().enumerate() {
@@ -76,21 +76,21 @@ fn push_values<const P: u32, K: MontyParameters<P>>(
             page.shown(bytes_of(told.text, field))?;
             page.word(" ")?;
         }
-        page.number(value.as_canonical_u32() as u128)?;
+        page.number(u128::from(value.as_number()))?;
     }
     page.word(")")
 }
 
 /// Appends the first tuple that differs from this one in one value alone and is off by as much the
 /// other way, if one is known: most likely one of both was meant to be the other.
-fn push_near_tuple<const P: u32, K: MontyParameters<P>>(
+fn push_near_tuple<F: TableField>(
     page: &mut Page,
     told: Told<'_>,
-    group: &BusGroup<MontyField31<P, K>>,
-    tuple: &UnbalancedTuple<MontyField31<P, K>>,
+    group: &BusGroup<F>,
+    tuple: &UnbalancedTuple<F>,
 ) -> Result<(), AllocError> {
     for other in &group.first {
-        if other.net + tuple.net != MontyField31::ZERO {
+        if other.net + tuple.net != F::ZERO {
             continue;
         }
         let Some(index) = only_difference(&tuple.tuple, &other.tuple) else {
@@ -149,21 +149,22 @@ fn field_of(told: Told<'_>, group: &GroupName, index: usize) -> Option<Span> {
 }
 
 /// An element without its sign.
-fn magnitude<const P: u32, K: MontyParameters<P>>(element: MontyField31<P, K>) -> u128 {
-    let number = element.as_canonical_u32();
-    if element.is_negative() {
-        (P - number) as u128
+pub(crate) fn magnitude<F: TableField>(element: F) -> u128 {
+    let number = element.as_number();
+    let size = if element.is_negative() {
+        F::modulus().saturating_sub(number)
     } else {
-        number as u128
-    }
+        number
+    };
+    u128::from(size)
 }
 
 /// Appends a place: the count, the line of the table, and the line of the message.
-fn push_place<const P: u32, K: MontyParameters<P>>(
+fn push_place<F: TableField>(
     page: &mut Page,
     told: Told<'_>,
     location: Location,
-    count: MontyField31<P, K>,
+    count: F,
 ) -> Result<(), AllocError> {
     let mut number = Page::new(page.alloc());
     if count.is_negative() {
@@ -173,7 +174,7 @@ fn push_place<const P: u32, K: MontyParameters<P>>(
     page.blanks(10usize.saturating_sub(characters(&number.bytes)))?;
     page.bytes.extend_from_slice(&number.bytes)?;
     page.word(" at ")?;
-    let Some(air) = air_at(told.batch, location.instance) else {
+    let Some(air) = told.airs.get(location.instance) else {
         return page.word("?\n");
     };
     if let Some(file) = trace_file(air, false) {

@@ -2,6 +2,42 @@
 use lookup_names::bytes_of;
 use lookup_text::{AirText, BatchText, BusText, ItemText, PlacedItem, SectionText, Span, Verb};
 
+/// The lines of a text, found one after the other.
+#[derive(Drop)]
+pub(crate) struct Lines<'a> {
+    text: &'a [u8],
+    at: usize,
+    line: usize,
+}
+
+impl<'a> Lines<'a> {
+    pub(crate) fn of(text: &'a [u8]) -> Lines<'a> {
+        Lines {
+            text,
+            at: 0,
+            line: 1,
+        }
+    }
+
+    /// The line of a byte. Bytes that are asked for in order take one pass over the text.
+    pub(crate) fn line_of(&mut self, at: usize) -> usize {
+        if at < self.at {
+            self.at = 0;
+            self.line = 1;
+        }
+        let at = at.min(self.text.len());
+        if self.at < at {
+            let ends = self.text[self.at..at]
+                .iter()
+                .filter(|byte| **byte == b'\n')
+                .count();
+            self.line = self.line.saturating_add(ends);
+            self.at = at;
+        }
+        self.line
+    }
+}
+
 /// The AIR with this number.
 pub(crate) fn air_at(batch: &BatchText, air: usize) -> Option<&AirText> {
     let mut before = air;

@@ -2,7 +2,7 @@
 use Rattle.std.proofs.Common.{◌≡◌, ◌≢◌, ◌⊎◌, ◌<◌, ◌≤◌, ◌++◌, ℕ, List, [], ◌∷◌, codes, get_or, length, map, string_bytes, Option, None, Some, IfSome, Result, Ok, Err, MatchResult, inl, inr, refl, sym, arith}
 use Rattle.std.specs.declared.alloc.Global.{Global}
 use Rattle.std.specs.declared.string.String.{String}
-use Rattle.lookup_program.specs.Fields.{Fields}
+use Rattle.field_words.specs.Fields.{Fields}
 use Rattle.lookup_program.specs.Machines.{name_of}
 use Rattle.lookup_program.specs.Program.{Answers, AnswersOver, IsBadChallenge, IsReport, IsReportRefusal}
 use Rattle.lookup_program.specs.declared.error.RunError.{RunError}

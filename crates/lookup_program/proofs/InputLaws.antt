@@ -7,7 +7,8 @@ use Rattle.std.proofs.lemmas.List.Splits.{length-slice_split}
 use Rattle.std.proofs.lemmas.List.Sums.{count_by-le-length}
 use Rattle.std.proofs.lemmas.Option.{same_Some}
 use Rattle.lookup_program.specs.Input.{NoLineRefusedBefore, line_refusal}
-use Rattle.lookup_program.specs.Words.{is_number, lines_of, number_of, words_of}
+use Rattle.lookup_program.specs.Words.{lines_of, words_of}
+use Rattle.field_words.specs.Words.{is_number, number_of}
 use Rattle.lookup_program.specs.declared.error.RunError.TheVariants.{WrongCount, BadNumber}
 use Rattle.lookup_program.specs.internal.Words.{numbers_or_zeros}
 

@@ -5,10 +5,7 @@ pub mod ExtractedLaws
 pub mod InputLaws
 pub mod MismatchLaws
 pub mod PackedAir
-pub mod PartLaws
 pub mod PlannedAirs
 pub mod PlannedBatches
 pub mod PlannedWidths
-pub mod ReportLaws
 pub mod VerdictLaws
-pub mod WordLaws

@@ -10,12 +10,13 @@ use Rattle.lookup_model.specs.Terminals.{terminal_sum}
 use Rattle.lookup_model.specs.declared.error.LookupError.{LookupError}
 use Rattle.lookup_model.specs.declared.error.LookupError.TheVariants.{TerminalSumNonZero}
 use Rattle.lookup_model.specs.declared.types.LookupTerminal.{LookupTerminal}
-use Rattle.lookup_program.specs.Fields.{Fields}
+use Rattle.field_words.specs.Fields.{Fields}
 use Rattle.lookup_program.specs.Input.{IsInput}
 use Rattle.lookup_program.specs.Machines.{input_columns}
 use Rattle.lookup_program.specs.Mismatches.{IsMismatchLine}
 use Rattle.lookup_program.specs.Program.{AreFaultlessMachineAirs, IsReport, height_sum, machine_witness}
-use Rattle.lookup_program.specs.Report.{verdict_line, witness_lines}
+use Rattle.lookup_program.specs.Report.{verdict_line}
+use Rattle.witness_text.specs.Lines.{witness_lines}
 use Rattle.lookup_program.specs.declared.machine.Machine.{Machine}
 
 -- what is appended to nothing

@@ -4,7 +4,8 @@ use Rattle.std.specs.Prelude.{◌≡◌, ◌+◌, ◌<◌, ◌==◌, ◌⊎◌, 
 use Rattle.std.specs.List.{flat_map, list_all}
 use Rattle.field.specs.Ring.{Ring, of_nat}
 use Rattle.matrix.specs.Matrix.{Matrix}
-use Rattle.lookup_program.specs.Words.{lines_of, words_of, number_of, is_number}
+use Rattle.lookup_program.specs.Words.{lines_of, words_of}
+use Rattle.field_words.specs.Words.{number_of, is_number}
 use Rattle.lookup_program.specs.declared.error.RunError.{RunError}
 use Rattle.lookup_program.specs.declared.error.RunError.TheVariants.{WrongCount, BadNumber, NoRows}
 

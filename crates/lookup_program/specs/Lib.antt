@@ -1,4 +1,3 @@
-pub mod Fields
 pub mod Input
 pub mod Machines
 pub mod Mismatches

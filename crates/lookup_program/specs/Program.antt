@@ -16,12 +16,13 @@ use Rattle.lookup_model.specs.Plain.{plain_cells, plain_terminal}
 use Rattle.lookup_model.specs.Sent.{Sent}
 use Rattle.lookup_model.specs.Terminals.{terminal_sum}
 use Rattle.lookup_model.specs.declared.error.LookupError.{LookupError}
-use Rattle.lookup_program.specs.Fields.{Fields}
+use Rattle.field_words.specs.Fields.{Fields}
 use Rattle.lookup_program.specs.Input.{IsInput, IsInputRefusal}
 use Rattle.lookup_program.specs.Machines.{air_bus_and_weight, air_sends, machine_air_trace, airs_of, input_columns, name_of}
 use Rattle.lookup_program.specs.Mismatches.{IsMismatchLine}
 use Rattle.lookup_program.specs.Refusal.{ShowsWord}
-use Rattle.lookup_program.specs.Report.{verdict_line, witness_lines}
+use Rattle.lookup_program.specs.Report.{verdict_line}
+use Rattle.witness_text.specs.Lines.{witness_lines}
 use Rattle.lookup_program.specs.declared.airs.MachineAir.{MachineAir}
 use Rattle.lookup_program.specs.declared.error.RunError.{RunError}
 use Rattle.lookup_program.specs.declared.error.RunError.TheVariants.{Usage, UnknownMachine, UnknownField, BadChallenge, Batch, CannotReadInput, Memory}

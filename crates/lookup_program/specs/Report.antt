@@ -1,28 +1,5 @@
--- What a run prints.
-use Rattle.std.specs.Prelude.{ℕ, ◌++◌, Bool, true, false, List, [], Option, None, Some, codes, decimal}
-use Rattle.std.specs.List.{enumerate_from, flat_map, join_by, range_with_len}
-use Rattle.matrix.specs.Matrix.{Matrix, height, row}
-use Rattle.lookup_model.specs.Batches.Witnesses.{AirResult}
-use Rattle.lookup_model.specs.declared.types.LookupTerminal.{LookupTerminal}
-
-module _ {K : Type 0} (text : K → List ℕ) where
-  -- the line of a row: its cells, separated by one space
-  abbrev pub row_line : List K → List ℕ
-  row_line cells = join_by text (codes " ") cells ++ codes "\n"
-
-  -- the line of a terminal, if there is one
-  abbrev pub terminal_line : Option (LookupTerminal K) → List ℕ
-  terminal_line None = []
-  terminal_line (Some terminal) = codes "terminal " ++ (text terminal.0 ++ codes "\n")
-
-  -- the lines of an AIR: its number, the rows of its auxiliary trace, and its terminal
-  abbrev pub air_lines : ℕ → Matrix K → Option (LookupTerminal K) → List ℕ
-  air_lines air trace terminal =
-      codes "air " ++ (decimal air ++ (codes "\n" ++ (flat_map (λ r. row_line (row trace r)) (range_with_len 0 (height trace)) ++ terminal_line terminal)))
-
-  -- the lines of all AIRs of a witness
-  abbrev pub witness_lines : List (AirResult K) → List ℕ
-  witness_lines witness = flat_map (λ p. air_lines p.0 p.1.0 p.1.1) (enumerate_from 0 witness)
+-- The last line that a run prints.
+use Rattle.std.specs.Prelude.{ℕ, Bool, true, false, List, codes}
 
 -- the last line: whether the terminals cancel
 abbrev pub verdict_line : Bool → List ℕ

@@ -1,5 +1,4 @@
 -- What contracts of private functions and proofs are stated with. No public contract rests on it.
-pub mod Fields
 pub mod Mismatches
 pub mod Pushes
 pub mod Traces

@@ -3,13 +3,13 @@ ghost use Rattle.std.specs.Prelude.{◌≡◌, ◌⊎◌, ℕ, List, IfSome, Mat
 ghost use Rattle.std.specs.Io.KnownBytes.{Appends};
 ghost use Rattle.std.specs.Process.{exit_status};
 ghost use Rattle.lookup_program.specs.Program.{Answers, AnswersOver, Ends, HasMismatch, IsBadChallenge, WritesInOrder};
-ghost use Rattle.lookup_program.specs.internal.Fields.{run_fields};
+ghost use Rattle.field_words.specs.Fields.{run_fields};
 
-use crate::challenge::Challenge;
 use crate::error::RunError;
 use crate::machine::Machine;
 use crate::report::{Report, report_of};
 use field::{BabyBear, BabyBear4, F7, Field, KoalaBear, KoalaBear4};
+use field_words::{Challenge, Written};
 use goldilocks::{Goldilocks, Goldilocks2};
 use std::alloc::Global;
 use std::io;
@@ -32,9 +32,9 @@ pub fn run<R: Read, W: Write, E: Write>(
 ) -> ExitCode
     ensures { (bytes : List ℕ) × (answer : Result Report RunError)
         × IfSome (R.remaining input.old) (λ known. bytes ≡ known)
-        × Answers ⟦<F7 as Challenge<F7>>⟧.fields ⟦<BabyBear4 as Challenge<BabyBear>>⟧.fields
-        ⟦<KoalaBear4 as Challenge<KoalaBear>>⟧.fields
-        ⟦<Goldilocks2 as Challenge<Goldilocks>>⟧.fields (map string_bytes words.now) bytes answer
+        × Answers ⟦<F7 as Written<F7>>⟧.fields ⟦<BabyBear4 as Written<BabyBear>>⟧.fields
+        ⟦<KoalaBear4 as Written<KoalaBear>>⟧.fields
+        ⟦<Goldilocks2 as Written<Goldilocks>>⟧.fields (map string_bytes words.now) bytes answer
         × Ends W.contents E.contents answer (exit_status result) output.old output.new errors.old
         errors.new }
 {
@@ -91,9 +91,9 @@ fn write_and_flush<W: Write>(bytes: &[u8], output: &mut W) -> io::Result<()>
 /// The report for the words, or the first refusal in the order of the checks.
 fn answer<R: Read>(alloc: Global, words: &[String], input: &mut R) -> Result<Report, RunError>
     ensures { (bytes : List ℕ) × IfSome (R.remaining input.old) (λ known. bytes ≡ known)
-        × Answers ⟦<F7 as Challenge<F7>>⟧.fields ⟦<BabyBear4 as Challenge<BabyBear>>⟧.fields
-        ⟦<KoalaBear4 as Challenge<KoalaBear>>⟧.fields
-        ⟦<Goldilocks2 as Challenge<Goldilocks>>⟧.fields (map string_bytes words.now) bytes result }
+        × Answers ⟦<F7 as Written<F7>>⟧.fields ⟦<BabyBear4 as Written<BabyBear>>⟧.fields
+        ⟦<KoalaBear4 as Written<KoalaBear>>⟧.fields
+        ⟦<Goldilocks2 as Written<Goldilocks>>⟧.fields (map string_bytes words.now) bytes result }
 {
     let [machine, field, alpha, beta] = words else {
         return Err(RunError::Usage);

@@ -4,7 +4,6 @@
 #![tactic(auto)]
 
 mod airs;
-mod challenge;
 mod command;
 mod error;
 mod machine;

@@ -1,15 +1,13 @@
 //! What a run prints.
-ghost use Rattle.std.specs.Prelude.{◌≡◌, ◌++◌, ◌<◌, ◌⊎◌, MatchResult, OnOk, codes, length, string_bytes};
-ghost use Rattle.std.specs.List.{AllZip, flat_map};
+ghost use Rattle.std.specs.Prelude.{◌≡◌, ◌<◌, ◌⊎◌, MatchResult, length};
+ghost use Rattle.std.specs.List.{AllZip};
 ghost use Rattle.matrix.specs.Matrix.{height};
 ghost use Rattle.lookup_model.specs.Batches.Witnesses.{results_of};
 ghost use Rattle.lookup_program.specs.Machines.{airs_of, input_columns};
 ghost use Rattle.lookup_program.specs.Program.{AreFaultlessMachineAirs, IsFirstAirFault, IsHeavyInput, IsReport, IsReportRefusal, height_sum, machine_witness};
-ghost use Rattle.lookup_program.specs.Report.{air_lines, row_line, witness_lines};
-ghost use Rattle.lookup_program.specs.internal.Fields.{run_fields};
+ghost use Rattle.field_words.specs.Fields.{run_fields};
 ghost use Rattle.lookup_program.specs.internal.Traces.{IsTraceOf};
 
-use crate::challenge::Challenge;
 use crate::error::RunError;
 use crate::machine::Machine;
 use crate::mismatch::mismatch_line;
@@ -18,9 +16,11 @@ use crate::traces::{AirParts, AirTrace, air_parts, air_traces, plan_traces};
 use batch::BatchPlan;
 use checker::Witness;
 use field::{ExtensionField, Field, Over};
-use lookup::{LogUpGadget, LookupProtocol, LookupTerminal};
+use field_words::Challenge;
+use lookup::{LogUpGadget, LookupProtocol};
 use matrix::RowMajorMatrix;
-use std::alloc::{AllocError, Global};
+use std::alloc::Global;
+use witness_text::push_witness;
 
 /// The result of a run that is not refused.
 #[derive(Debug, Drop)]
@@ -101,67 +101,4 @@ fn prove_machine<F: Field, EF: ExtensionField<F>>(
     let (alpha, beta) = challenges;
     let witness = plan.prove(alloc, traces.as_slice(), alpha, beta)?;
     Ok(witness)
-}
-
-/// Appends the lines of all AIRs.
-fn push_witness<EF: Field>(
-    alloc: Global,
-    text: &mut String,
-    witness: &Witness<EF>,
-) -> Result<(), AllocError>
-    requires { length witness.now.aux.items ≡ length witness.now.terminals.items }
-    ensures { OnOk result (string_bytes text.new ≡ string_bytes text.old
-        ++ witness_lines EF.text (results_of witness.now)) }
-{
-    for air in 0..witness.aux.len() {
-        push_air(alloc, text, air, &witness.aux[air], witness.terminals[air])?;
-    }
-    Ok(())
-}
-
-/// Appends the lines of one AIR: its number, the rows of its auxiliary trace, and its terminal.
-fn push_air<EF: Field>(
-    alloc: Global,
-    text: &mut String,
-    air: usize,
-    trace: &RowMajorMatrix<EF>,
-    terminal: Option<LookupTerminal<EF>>,
-) -> Result<(), AllocError>
-    ensures { OnOk result (string_bytes text.new ≡ string_bytes text.old
-        ++ air_lines EF.text air trace.now terminal) }
-{
-    text.push_str(format!(in alloc; "air {air}\n")?.as_str())?;
-    for row in 0..trace.height() {
-        push_row(alloc, text, trace.row_slice(row))?;
-    }
-    if let Some(LookupTerminal(value)) = terminal {
-        text.push_str("terminal ")?;
-        text.push_str(value.text(alloc)?.as_str())?;
-        text.push_str("\n")?;
-    }
-    Ok(())
-}
-
-/// Appends the cells of a row, separated by one space.
-fn push_row<EF: Field>(alloc: Global, text: &mut String, cells: &[EF]) -> Result<(), AllocError>
-    ensures { OnOk result (string_bytes text.new ≡ string_bytes text.old
-        ++ row_line EF.text cells.now) }
-{
-    if let Some((first, rest)) = cells.split_first() {
-        text.push_str(first.text(alloc)?.as_str())?;
-        push_rest(alloc, text, rest)?;
-    }
-    text.push_str("\n")
-}
-
-/// Appends the remaining cells of a row, each after one space.
-fn push_rest<EF: Field>(alloc: Global, text: &mut String, cells: &[EF]) -> Result<(), AllocError>
-    ensures { OnOk result (string_bytes text.new ≡ string_bytes text.old
-        ++ flat_map (λ cell. codes " " ++ EF.text cell) cells.now) }
-{
-    for cell in cells {
-        text.push_str(" ")?;
-        text.push_str(cell.text(alloc)?.as_str())?;
-    }
-    Ok(())
 }

@@ -1,15 +1,15 @@
 //! The rows of the input.
 ghost use Rattle.std.specs.Prelude.{◌≡◌, ◌+◌, ◌%◌, ◌<◌, ◌++◌, ◌⊎◌, IfOk, MatchResult, OnOk, map, vec_len};
 ghost use Rattle.std.specs.List.{list_all};
-ghost use Rattle.field.specs.Ring.{of_nat};
 ghost use Rattle.matrix.specs.Matrix.{height};
 ghost use Rattle.lookup_program.specs.Input.{AreNumbers, IsFirstLineRefusal, IsInput, IsInputRefusal, line_refusal};
-ghost use Rattle.lookup_program.specs.Words.{is_number, number_of, words_of};
-ghost use Rattle.lookup_program.specs.internal.Words.{number_bound, numbers_or_zeros};
+ghost use Rattle.lookup_program.specs.Words.{words_of};
+ghost use Rattle.field_words.specs.Words.{is_number, number_of, number_bound};
+ghost use Rattle.lookup_program.specs.internal.Words.{numbers_or_zeros};
 
-use crate::challenge::{number, times_one};
 use crate::error::RunError;
 use field::Field;
+use field_words::{elements_of, number};
 use matrix::RowMajorMatrix;
 use std::alloc::{AllocError, Global};
 
@@ -36,18 +36,7 @@ pub fn read_rows<F: Field>(
     if numbers.is_empty() {
         return Err(RunError::NoRows);
     }
-    Ok(RowMajorMatrix::new(elements(alloc, &numbers)?, columns))
-}
-
-/// The elements that the numbers give.
-fn elements<F: Field>(alloc: Global, numbers: &[u64]) -> Result<Vec<F>, AllocError>
-    ensures { IfOk result (λ v. v.items ≡ map (of_nat F.ring) numbers.now) }
-{
-    let mut values = Vec::new(alloc);
-    for number in numbers {
-        values.push(times_one(*number))?;
-    }
-    Ok(values)
+    Ok(RowMajorMatrix::new(elements_of(alloc, &numbers)?, columns))
 }
 
 /// The numbers of all lines, line after line.

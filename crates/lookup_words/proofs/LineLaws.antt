@@ -1,17 +1,26 @@
 -- From what `clap` says of its commands and parses to what words ask for.
 use Rattle.std.proofs.Common.{◌∙◌, ◌≡◌, Bool, List, [], true, ap, ap₂, inl, inr, refl, subst}
 use Rattle.std.specs.Prelude.{◌||◌}
-use Rattle.clap.specs.Words.{AddsSubcommand, App, HasKind, HasMatchesOf, Text, fault_of, is_simple, is_simple_and_free, kind_of, subcommand_of, subcommand_rows_of, with_subcommand}
+use Rattle.clap.specs.Words.{AddsArg, AddsSubcommand, App, HasKind, HasMatchesOf, Rule, Text, fault_of, is_simple, is_simple_and_free, kind_of, subcommand_of, subcommand_rows_of, with_rule, with_subcommand}
+use Rattle.clap.specs.declared.builder.arg.Arg.{Arg}
 use Rattle.clap.specs.declared.builder.command.Command.{Command}
 use Rattle.clap.specs.declared.error.Error.{Error}
 use Rattle.clap.specs.declared.parser.matches.ArgMatches.{ArgMatches}
 use Rattle.clap.proofs.OnLiterals.{clap_on_literals}
 use Rattle.lookup_words.specs.Line.{Names, line_app}
-use Rattle.lookup_words.specs.internal.Commands.{IsCommand}
+use Rattle.lookup_words.specs.internal.Commands.{IsArg, IsCommand}
 use Rattle.lookup_words.specs.internal.Readings.{IsMistake, TellsKind}
 use Rattle.lookup_words.specs.Words.{AsksNothing, IsRefused}
 use Rattle.lookup_words.specs.declared.refusal.WordsRefusal.{WordsRefusal}
 use Rattle.lookup_words.specs.declared.refusal.WordsRefusal.TheVariants.{Memory, Help, Told}
+
+-- a command with one more argument
+pub with_argument : (old new : Command) (a : Arg) (app : App) (rule : Rule) → AddsArg old a new → IsCommand app old → IsArg rule a
+    → IsCommand (with_rule app rule) new
+with_argument old new a app rule adds is is_arg = record {
+  shape = adds.shape is_arg.local ∙ ap₂ with_rule is.shape is_arg.rule;
+  local = adds.globals ∙ ap₂ (λ (b c : Bool). b || c) is.local is_arg.local;
+}
 
 -- a command with one more subcommand
 pub with_command : (old sub new : Command) (app sub_app : App) → AddsSubcommand old sub new → IsCommand app old → IsCommand sub_app sub

@@ -1,5 +1,5 @@
 -- The command line of `lookup-check`, as a parse reads it.
-use Rattle.std.specs.Prelude.{◌≡◌, ℕ, true, List, [], ◌∷◌, Some, codes, map}
+use Rattle.std.specs.Prelude.{◌≡◌, ℕ, true, List, [], ◌∷◌, Some, codes, fold, map}
 use Rattle.std.specs.Borrow.{Bor}
 use Rattle.clap.specs.Words.{App, Rule, Text, new_app, new_rule, with_rule, with_subcommand}
 use Rattle.clap.specs.declared.builder.action.ArgAction.TheVariants.{SetTrue}
@@ -24,6 +24,18 @@ field_rule fields = record (new_rule (codes "field")) {
   parser = Some (parser.Names fields);
 }
 
+-- an option with no value
+abbrev pub flag_rule : Text → Rule
+flag_rule id = record (new_rule id) { long = Some id; action = Some SetTrue }
+
+-- the flag for progress
+abbrev pub progress_rule : Rule
+progress_rule = flag_rule (codes "progress")
+
+-- the flag for JSON
+abbrev pub json_rule : Rule
+json_rule = flag_rule (codes "json")
+
 -- an option whose value is a number of 64 bits, from `least` on
 abbrev pub number_rule : Text → ℕ → Rule
 number_rule id least = record (new_rule id) {
@@ -44,9 +56,9 @@ degree_rule = record (number_rule (codes "degree") 0) { defaults = codes "3" ∷
 abbrev pub wanted_degree_rule : Rule
 wanted_degree_rule = record (number_rule (codes "degree") 0) { required = true }
 
--- the flag for JSON
-abbrev pub json_rule : Rule
-json_rule = record (new_rule (codes "json")) { long = Some (codes "json"); action = Some SetTrue }
+-- the bits that are wanted; with no default
+abbrev pub target_rule : Rule
+target_rule = number_rule (codes "target") 0
 
 -- how many messages there are
 abbrev pub messages_rule : Rule
@@ -60,39 +72,81 @@ unbalanced_rule = number_rule (codes "unbalanced") 0
 abbrev pub width_rule : Rule
 width_rule = record (number_rule (codes "width") 1) { defaults = codes "1" ∷ [] }
 
+-- an option whose value is any text
+abbrev pub text_rule : Text → Rule
+text_rule id = record (new_rule id) { long = Some id; value_names = 1 }
+
+-- the first challenge
+abbrev pub alpha_rule : Rule
+alpha_rule = record (text_rule (codes "alpha")) { required = true }
+
+-- the second challenge
+abbrev pub beta_rule : Rule
+beta_rule = record (text_rule (codes "beta")) { required = true }
+
+-- the file that a witness is written to; with no default
+abbrev pub out_rule : Rule
+out_rule = text_rule (codes "out")
+
+-- the file with a witness
+abbrev pub witness_rule : Rule
+witness_rule = record (text_rule (codes "witness")) { required = true }
+
 -- ---- commands
 
--- a command about a file, over one of the fields
+-- a command with these arguments after its own
+abbrev pub with_rules : App → List Rule → App
+with_rules app rules = fold with_rule app rules
+
+-- `NAME FILE [--field NAME] [--progress]`, over one of the fields
 abbrev pub file_app : Text → Names → App
-file_app name fields = with_rule (with_rule (new_app name) file_rule) (field_rule fields)
+file_app name fields =
+    with_rules (new_app name) (file_rule ∷ field_rule fields ∷ progress_rule ∷ [])
 
--- `check`, with no degree yet
-abbrev pub limited_check_app : Names → App
-limited_check_app fields = with_rule (file_app (codes "check") fields) limit_rule
-
--- `check FILE [--field NAME] [--limit N] [--degree D]`
+-- `check FILE .. [--limit N] [--degree D] [--json]`
 abbrev pub check_app : Names → App
-check_app fields = with_rule (limited_check_app fields) degree_rule
+check_app fields =
+    with_rules (file_app (codes "check") fields) (limit_rule ∷ degree_rule ∷ json_rule ∷ [])
 
--- `plan FILE [--field NAME] [--degree D]`
+-- `plan FILE .. [--degree D] [--json] [--target B]`
 abbrev pub plan_app : Names → App
-plan_app fields = with_rule (file_app (codes "plan") fields) degree_rule
+plan_app fields =
+    with_rules (file_app (codes "plan") fields) (degree_rule ∷ json_rule ∷ target_rule ∷ [])
 
--- `pack FILE --degree D [--field NAME]`
+-- `pack FILE .. --degree D [--json]`
 abbrev pub pack_app : Names → App
-pack_app fields = with_rule (file_app (codes "pack") fields) wanted_degree_rule
+pack_app fields =
+    with_rules (file_app (codes "pack") fields) (wanted_degree_rule ∷ json_rule ∷ [])
 
--- `show FILE [--field NAME] [--json]`
+-- `show FILE .. [--json]`
 abbrev pub show_app : Names → App
-show_app fields = with_rule (file_app (codes "show") fields) json_rule
+show_app fields = with_rules (file_app (codes "show") fields) (json_rule ∷ [])
 
--- `bits`, with no width yet
-abbrev pub unbalanced_bits_app : App
-unbalanced_bits_app = with_rule (with_rule (new_app (codes "bits")) messages_rule) unbalanced_rule
+-- `NAME FILE .. --alpha A --beta B`
+abbrev pub challenge_app : Text → Names → App
+challenge_app name fields = with_rules (file_app name fields) (alpha_rule ∷ beta_rule ∷ [])
+
+-- `witness FILE .. --alpha A --beta B [--out FILE]`
+abbrev pub witness_app : Names → App
+witness_app fields = with_rules (challenge_app (codes "witness") fields) (out_rule ∷ [])
+
+-- `accept FILE .. --alpha A --beta B --witness FILE`
+abbrev pub accept_app : Names → App
+accept_app fields = with_rules (challenge_app (codes "accept") fields) (witness_rule ∷ [])
+
+-- `any FILE .. --alpha A --beta B`
+abbrev pub any_app : Names → App
+any_app fields = challenge_app (codes "any") fields
 
 -- `bits --messages N [--unbalanced K] [--width W]`
-abbrev pub bits_app : App
-bits_app = with_rule unbalanced_bits_app width_rule
+abbrev pub message_bits_app : App
+message_bits_app =
+    with_rules (new_app (codes "bits")) (messages_rule ∷ unbalanced_rule ∷ width_rule ∷ [])
+
+-- the same, and `[--field NAME] [--target B] [--json]`
+abbrev pub bits_app : Names → App
+bits_app fields =
+    with_rules message_bits_app (field_rule fields ∷ target_rule ∷ json_rule ∷ [])
 
 -- the program, with no command yet
 abbrev pub bare_app : App
@@ -105,29 +159,24 @@ bare_app = let a = new_app (codes "lookup-check") in
       };
     }
 
--- the program, with its commands up to `check`
-abbrev pub app_to_check : Names → App
-app_to_check fields = with_subcommand bare_app (check_app fields).top
+-- a program with these commands after its own
+abbrev pub with_commands : App → List App → App
+with_commands app commands = fold (λ a command. with_subcommand a command.top) app commands
 
--- the same, up to `plan`
-abbrev pub app_to_plan : Names → App
-app_to_plan fields = with_subcommand (app_to_check fields) (plan_app fields).top
-
--- the same, up to `pack`
-abbrev pub app_to_pack : Names → App
-app_to_pack fields = with_subcommand (app_to_plan fields) (pack_app fields).top
-
--- the same, up to `show`
+-- the program, with its commands up to `show`
 abbrev pub app_to_show : Names → App
-app_to_show fields = with_subcommand (app_to_pack fields) (show_app fields).top
+app_to_show fields = with_commands bare_app
+    (check_app fields ∷ plan_app fields ∷ pack_app fields ∷ show_app fields ∷ [])
 
 -- the program
 abbrev pub line_app : Names → App
-line_app fields = with_subcommand (app_to_show fields) bits_app.top
+line_app fields = with_commands (app_to_show fields)
+    (witness_app fields ∷ accept_app fields ∷ any_app fields ∷ bits_app fields ∷ [])
 
 -- the names that `--field` takes
 abbrev pub field_names : List Text
-field_names = codes "babybear4" ∷ codes "koalabear4" ∷ []
+field_names =
+    codes "f7" ∷ codes "babybear4" ∷ codes "koalabear4" ∷ codes "goldilocks2" ∷ []
 
 -- these are the names that `--field` takes
 abbrev pub HasFieldNames : Names → Type 0

@@ -1,14 +1,22 @@
 -- What words ask for.
-use Rattle.std.specs.Prelude.{◌≡◌, ◌≢◌, ◌⊎◌, ◌↔◌, ◌<◌, ◌≤◌, ◌^◌, ℕ, ⊤, List, [], Some, IsTrue}
-use Rattle.std.specs.Prelude.{Option, MatchOption, IsSomeAnd, codes}
+use Rattle.std.specs.Prelude.{◌≡◌, ◌≢◌, ◌⊎◌, ◌↔◌, ◌<◌, ◌≤◌, ◌^◌, ℕ, Bool, ⊤, List, [], Some}
+use Rattle.std.specs.Prelude.{None, Option, MatchOption, IsSomeAnd, IsTrue, codes, option_map}
+use Rattle.std.specs.Borrow.{Bor}
 use Rattle.std.specs.Str.Parse.{IsNumeral, digits_value, without_leading_plus}
 use Rattle.clap.specs.Words.{App, Row, Text, first_of, subcommand_of, fault_of, IsAmong, Kinds}
 use Rattle.clap.specs.declared.error.kind.ErrorKind.{ErrorKind}
 use Rattle.clap.specs.declared.error.kind.ErrorKind.TheVariants.{DisplayHelp}
 use Rattle.lookup_words.specs.declared.request.Asked.{Asked}
-use Rattle.lookup_words.specs.declared.request.Asked.TheVariants.{Check, Plan, Pack, Show, Bits}
+use Rattle.lookup_words.specs.declared.request.Asked.TheVariants.{Batch, Bits}
+use Rattle.lookup_words.specs.declared.request.BatchRequest.{BatchRequest}
+use Rattle.lookup_words.specs.declared.request.BitsRequest.{BitsRequest}
+use Rattle.lookup_words.specs.declared.request.ChallengeWords.{ChallengeWords}
 use Rattle.lookup_words.specs.declared.request.FieldName.{FieldName}
-use Rattle.lookup_words.specs.declared.request.FieldName.TheVariants.{BabyBear4, KoalaBear4}
+use Rattle.lookup_words.specs.declared.request.FieldName.TheVariants.{F7, BabyBear4, KoalaBear4}
+use Rattle.lookup_words.specs.declared.request.FieldName.TheVariants.{Goldilocks2}
+use Rattle.lookup_words.specs.declared.request.Task.{Task}
+use Rattle.lookup_words.specs.declared.request.Task.TheVariants.{Check, Plan, Pack, Show, Witness}
+use Rattle.lookup_words.specs.declared.request.Task.TheVariants.{Accept, Any}
 use Rattle.lookup_words.specs.declared.refusal.WordsRefusal.{WordsRefusal}
 use Rattle.lookup_words.specs.declared.refusal.WordsRefusal.TheVariants.{Memory, Help, Told}
 
@@ -26,41 +34,74 @@ HasNumber rows id n = IsSomeAnd (first_of id rows) (IsNumber n)
 abbrev pub HasNumberOr : List Row → Text → ℕ → ℕ → Type 0
 HasNumberOr rows id other n = MatchOption (first_of id rows) (n ≡ other) (IsNumber n)
 
+-- the value of the option is this number, or it has no value
+abbrev pub HasOptionalNumber : List Row → Text → Option ℕ → Type 0
+HasOptionalNumber rows id number = MatchOption number (first_of id rows ≡ None) (HasNumber rows id)
+
 -- the name of a field
 abbrev pub field_text : FieldName → Text
+field_text F7 = codes "f7"
 field_text BabyBear4 = codes "babybear4"
 field_text KoalaBear4 = codes "koalabear4"
+field_text Goldilocks2 = codes "goldilocks2"
 
 -- the value of the argument is this text
 abbrev pub HasText : List Row → Text → Text → Type 0
 HasText rows id text = first_of id rows ≡ Some text
 
+-- the value of the option is this text, or it has no value
+abbrev pub HasOptionalText : List Row → Text → Option (Bor Text) → Type 0
+HasOptionalText rows id text = first_of id rows ≡ option_map (λ s. s.now) text
+
 -- the value of `--field` is the name of this field
 abbrev pub HasField : List Row → FieldName → Type 0
 HasField rows field = HasText rows (codes "field") (field_text field)
 
--- the flag is set
-abbrev pub IsSet : List Row → Text → Type 0
-IsSet rows id = HasText rows id (codes "true")
+-- the flag is set exactly if this is true
+abbrev pub HasFlag : List Row → Text → Bool → Type 0
+HasFlag rows id is_set = IsTrue is_set ↔ HasText rows id (codes "true")
+
+-- ---- of the values of a command's arguments
+
+-- the challenges are these
+abbrev pub HasChallenges : List Row → ChallengeWords → Type 0
+HasChallenges rows words = HasText rows (codes "alpha") words.alpha.now
+    × HasText rows (codes "beta") words.beta.now
+
+-- the command `name` is this task of a batch
+abbrev pub IsTask : Text → List Row → Task → Type 0
+IsTask name rows (Check limit degree json) = (name ≡ codes "check")
+    × HasNumber rows (codes "limit") limit × HasNumber rows (codes "degree") degree
+    × HasFlag rows (codes "json") json
+IsTask name rows (Plan degree json target) = (name ≡ codes "plan")
+    × HasNumber rows (codes "degree") degree × HasFlag rows (codes "json") json
+    × HasOptionalNumber rows (codes "target") target
+IsTask name rows (Pack degree json) = (name ≡ codes "pack")
+    × HasNumber rows (codes "degree") degree × HasFlag rows (codes "json") json
+IsTask name rows (Show json) = (name ≡ codes "show") × HasFlag rows (codes "json") json
+IsTask name rows (Witness challenges out) = (name ≡ codes "witness")
+    × HasChallenges rows challenges × HasOptionalText rows (codes "out") out
+IsTask name rows (Accept challenges witness) = (name ≡ codes "accept")
+    × HasChallenges rows challenges × HasText rows (codes "witness") witness.now
+IsTask name rows (Any challenges) = (name ≡ codes "any") × HasChallenges rows challenges
+
+-- the command `name` is this request about a file
+abbrev pub IsBatch : Text → List Row → BatchRequest → Type 0
+IsBatch name rows x = HasText rows (codes "file") x.file.now × HasField rows x.field
+    × HasFlag rows (codes "progress") x.progress × IsTask name rows x.task
+
+-- the command `bits` is this request
+abbrev pub IsBits : List Row → BitsRequest → Type 0
+IsBits rows x = HasNumber rows (codes "messages") x.messages
+    × HasNumberOr rows (codes "unbalanced") x.messages x.unbalanced
+    × HasNumber rows (codes "width") x.width × (x.unbalanced ≤ x.messages)
+    × HasField rows x.field × HasOptionalNumber rows (codes "target") x.target
+    × HasFlag rows (codes "json") x.json
 
 -- the command `name`, where its arguments have the values of rows, is this request
 abbrev pub Means : Text → List Row → Asked → Type 0
-Means name rows (Check file field limit degree) = (name ≡ codes "check")
-    × HasText rows (codes "file") file.now × HasField rows field
-    × HasNumber rows (codes "limit") limit × HasNumber rows (codes "degree") degree
-Means name rows (Plan file field degree) = (name ≡ codes "plan")
-    × HasText rows (codes "file") file.now × HasField rows field
-    × HasNumber rows (codes "degree") degree
-Means name rows (Pack file field degree) = (name ≡ codes "pack")
-    × HasText rows (codes "file") file.now × HasField rows field
-    × HasNumber rows (codes "degree") degree
-Means name rows (Show file field json) = (name ≡ codes "show")
-    × HasText rows (codes "file") file.now × HasField rows field
-    × (IsTrue json ↔ IsSet rows (codes "json"))
-Means name rows (Bits messages unbalanced width) = (name ≡ codes "bits")
-    × HasNumber rows (codes "messages") messages
-    × HasNumberOr rows (codes "unbalanced") messages unbalanced
-    × HasNumber rows (codes "width") width × (unbalanced ≤ messages)
+Means name rows (Batch x) = IsBatch name rows x
+Means name rows (Bits x) = (name ≡ codes "bits") × IsBits rows x
 
 -- the command that was met, with the values of its arguments, is this request
 abbrev pub Asks : Option (Text × List Row) → Asked → Type 0

@@ -1,14 +1,13 @@
 //! The command line of the program `lookup-check`: what its words ask for.
 #![tactic(auto)]
 
-mod bits;
+mod arguments;
 mod commands;
 mod line;
 mod reading;
 mod refusal;
 mod request;
 
-pub use bits::bits_of;
 pub use line::asked;
 pub use refusal::WordsRefusal;
-pub use request::{Asked, FieldName};
+pub use request::{Asked, BatchRequest, BitsRequest, ChallengeWords, FieldName, Task};

@@ -11,7 +11,7 @@ use crate::request::Asked;
 use std::alloc::Global;
 
 /// The names of the fields.
-static FIELDS: [&str; 2] = ["babybear4", "koalabear4"];
+static FIELDS: [&str; 4] = ["f7", "babybear4", "koalabear4", "goldilocks2"];
 
 /// What `words` ask for; the program's own name is none of them.
 ///

@@ -1,11 +1,16 @@
 //! From what `clap` found to a request.
-ghost use Rattle.std.specs.Prelude.{◌≡◌, ◌↔◌, ℕ, MatchOption, IsTrue, codes, option_map};
-ghost use Rattle.clap.specs.Words.{first_of, found_of, rows_of, subcommand_rows_of};
-ghost use Rattle.lookup_words.specs.Words.{HasField, HasNumber, HasNumberOr, IsSet};
-ghost use Rattle.lookup_words.specs.internal.Readings.{Reads, ReadsMet};
+ghost use Rattle.std.specs.Prelude.{ℕ, Option, MatchOption, codes};
+ghost use Rattle.clap.specs.Words.{found_of, rows_of, subcommand_rows_of};
+ghost use Rattle.lookup_words.specs.Words.{HasChallenges, HasField, HasFlag, HasNumber};
+ghost use Rattle.lookup_words.specs.Words.{HasNumberOr, HasOptionalNumber, HasOptionalText};
+ghost use Rattle.lookup_words.specs.Words.{IsBatch, IsBits};
+ghost use Rattle.lookup_words.specs.internal.Readings.{ReadsMet, ReadsTask};
+ghost use Rattle.lookup_words.specs.declared.request.BatchRequest.{BatchRequest};
+ghost use Rattle.lookup_words.specs.declared.request.BitsRequest.{BitsRequest};
+ghost use Rattle.lookup_words.specs.declared.request.ChallengeWords.{ChallengeWords};
 ghost use Rattle.lookup_words.specs.declared.request.FieldName.{FieldName};
 
-use crate::request::{Asked, FieldName};
+use crate::request::{Asked, BatchRequest, BitsRequest, ChallengeWords, FieldName, Task};
 use clap::ArgMatches;
 
 /// What the matches ask for. `None` if they ask for nothing.
@@ -13,79 +18,125 @@ pub fn asked_of<'a>(matches: &ArgMatches<'a>) -> Option<Asked<'a>>
     ensures { ReadsMet (subcommand_rows_of matches.now) result }
 {
     let (name, found) = matches.subcommand()?;
+    if name == "bits" {
+        Some(Asked::Bits(bits_of(found)?))
+    } else {
+        Some(Asked::Batch(batch_of(name, found)?))
+    }
+}
+
+fn bits_of(found: &ArgMatches<'_>) -> Option<BitsRequest>
+    ensures { MatchOption result
+        ((x : BitsRequest) → IsBits (rows_of (found_of found.now)) x → ⊥)
+        (IsBits (rows_of (found_of found.now))) }
+{
+    let field = field_of(found)?;
+    let messages = number_of(found, "messages")?;
+    let unbalanced = number_or(found, "unbalanced", messages)?;
+    let width = number_of(found, "width")?;
+    let target = optional_number_of(found, "target")?;
+    let json = is_set(found, "json");
+    if messages < unbalanced {
+        return None;
+    }
+    Some(BitsRequest {
+        field,
+        messages,
+        unbalanced,
+        width,
+        target,
+        json,
+    })
+}
+
+/// What a command of this name asks for of the batch of a file.
+fn batch_of<'a>(name: &str, found: &ArgMatches<'a>) -> Option<BatchRequest<'a>>
+    ensures { MatchOption result
+        ((x : BatchRequest) → IsBatch name.now (rows_of (found_of found.now)) x → ⊥)
+        (IsBatch name.now (rows_of (found_of found.now))) }
+{
+    Some(BatchRequest {
+        file: text_of(found, "file")?,
+        field: field_of(found)?,
+        progress: is_set(found, "progress"),
+        task: task_of(name, found)?,
+    })
+}
+
+fn task_of<'a>(name: &str, found: &ArgMatches<'a>) -> Option<Task<'a>>
+    ensures { ReadsTask name.now (rows_of (found_of found.now)) result }
+{
     match name {
         "check" => check_of(found),
         "plan" => plan_of(found),
         "pack" => pack_of(found),
-        "show" => show_of(found),
-        "bits" => bits_of(found),
+        "show" => Some(Task::Show {
+            json: is_set(found, "json"),
+        }),
+        "witness" => witness_of(found),
+        "accept" => accept_of(found),
+        "any" => Some(Task::Any {
+            challenges: challenges_of(found)?,
+        }),
         _ => None,
     }
 }
 
-fn check_of<'a>(found: &ArgMatches<'a>) -> Option<Asked<'a>>
-    ensures { Reads (codes "check") (rows_of (found_of found.now)) result }
+fn check_of<'a>(found: &ArgMatches<'a>) -> Option<Task<'a>>
+    ensures { ReadsTask (codes "check") (rows_of (found_of found.now)) result }
 {
-    let file = text_of(found, "file")?;
-    let field = field_of(found)?;
-    let limit = number_of(found, "limit")? as usize;
-    let degree = number_of(found, "degree")? as usize;
-    Some(Asked::Check {
-        file,
-        field,
-        limit,
-        degree,
+    Some(Task::Check {
+        limit: number_of(found, "limit")? as usize,
+        degree: number_of(found, "degree")? as usize,
+        json: is_set(found, "json"),
     })
 }
 
-fn plan_of<'a>(found: &ArgMatches<'a>) -> Option<Asked<'a>>
-    ensures { Reads (codes "plan") (rows_of (found_of found.now)) result }
+fn plan_of<'a>(found: &ArgMatches<'a>) -> Option<Task<'a>>
+    ensures { ReadsTask (codes "plan") (rows_of (found_of found.now)) result }
 {
-    let file = text_of(found, "file")?;
-    let field = field_of(found)?;
-    let degree = number_of(found, "degree")? as usize;
-    Some(Asked::Plan {
-        file,
-        field,
-        degree,
+    Some(Task::Plan {
+        degree: number_of(found, "degree")? as usize,
+        json: is_set(found, "json"),
+        target: optional_number_of(found, "target")?,
     })
 }
 
-fn pack_of<'a>(found: &ArgMatches<'a>) -> Option<Asked<'a>>
-    ensures { Reads (codes "pack") (rows_of (found_of found.now)) result }
+fn pack_of<'a>(found: &ArgMatches<'a>) -> Option<Task<'a>>
+    ensures { ReadsTask (codes "pack") (rows_of (found_of found.now)) result }
 {
-    let file = text_of(found, "file")?;
-    let field = field_of(found)?;
-    let degree = number_of(found, "degree")? as usize;
-    Some(Asked::Pack {
-        file,
-        field,
-        degree,
+    Some(Task::Pack {
+        degree: number_of(found, "degree")? as usize,
+        json: is_set(found, "json"),
     })
 }
 
-fn show_of<'a>(found: &ArgMatches<'a>) -> Option<Asked<'a>>
-    ensures { Reads (codes "show") (rows_of (found_of found.now)) result }
+fn witness_of<'a>(found: &ArgMatches<'a>) -> Option<Task<'a>>
+    ensures { ReadsTask (codes "witness") (rows_of (found_of found.now)) result }
 {
-    let file = text_of(found, "file")?;
-    let field = field_of(found)?;
-    let json = is_set(found, "json");
-    Some(Asked::Show { file, field, json })
+    Some(Task::Witness {
+        challenges: challenges_of(found)?,
+        out: text_of(found, "out"),
+    })
 }
 
-fn bits_of<'a>(found: &ArgMatches<'a>) -> Option<Asked<'a>>
-    ensures { Reads (codes "bits") (rows_of (found_of found.now)) result }
+fn accept_of<'a>(found: &ArgMatches<'a>) -> Option<Task<'a>>
+    ensures { ReadsTask (codes "accept") (rows_of (found_of found.now)) result }
 {
-    let messages = number_of(found, "messages")?;
-    let unbalanced = number_or(found, "unbalanced", messages)?;
-    let width = number_of(found, "width")?;
-    if messages < unbalanced {
-        return None;
-    }
-    Some(Asked::Bits {
-        messages,
-        unbalanced,
-        width,
+    Some(Task::Accept {
+        challenges: challenges_of(found)?,
+        witness: text_of(found, "witness")?,
+    })
+}
+
+fn challenges_of<'a>(found: &ArgMatches<'a>) -> Option<ChallengeWords<'a>>
+    ensures { MatchOption result
+        ((c : ChallengeWords) → HasChallenges (rows_of (found_of found.now)) c → ⊥)
+        (HasChallenges (rows_of (found_of found.now))) }
+{
+    Some(ChallengeWords {
+        alpha: text_of(found, "alpha")?,
+        beta: text_of(found, "beta")?,
     })
 }
 
@@ -117,8 +168,20 @@ fn number_or(found: &ArgMatches<'_>, id: &str, other: u64) -> Option<u64>
     }
 }
 
+/// The number that an option has, or none where it is not there. `None` if its value is no number.
+fn optional_number_of(found: &ArgMatches<'_>, id: &str) -> Option<Option<u64>>
+    ensures { MatchOption result
+        ((n : Option ℕ) → HasOptionalNumber (rows_of (found_of found.now)) id.now n → ⊥)
+        (HasOptionalNumber (rows_of (found_of found.now)) id.now) }
+{
+    match text_of(found, id) {
+        Some(text) => Some(Some(text.parse().ok()?)),
+        None => Some(None),
+    }
+}
+
 fn is_set(found: &ArgMatches<'_>, id: &str) -> bool
-    ensures { IsTrue result ↔ IsSet (rows_of (found_of found.now)) id.now }
+    ensures { HasFlag (rows_of (found_of found.now)) id.now result }
 {
     match text_of(found, id) {
         Some(text) => text == "true",
@@ -127,7 +190,7 @@ fn is_set(found: &ArgMatches<'_>, id: &str) -> bool
 }
 
 fn text_of<'a>(found: &ArgMatches<'a>, id: &str) -> Option<&'a str>
-    ensures { option_map (λ s. s.now) result ≡ first_of id.now (rows_of (found_of found.now)) }
+    ensures { HasOptionalText (rows_of (found_of found.now)) id.now result }
 {
     found.get_str(id)
 }

@@ -1,17 +1,17 @@
 //! What texts say over a field.
 use super::holds;
 use expressions::{BaseEntry, BaseLeaf, SymbolicExpression};
-use field::{BabyBear, BabyBearParameters};
-use lookup_elements::{
-    element_of, elements_of, expression_of, has_whole_rows, lookups_over, matrix_of,
-};
+use field::{BabyBear, BabyBear4, F7, PrimeCharacteristicRing};
+use field_words::{Challenge, elements_of, number, times_one};
+use goldilocks::{Goldilocks, Goldilocks2};
+use lookup_elements::{expression_of, has_whole_rows, lookups_over, matrix_of};
 use lookup_model::{Kind, Lookup};
 use lookup_names::{NamedAir, Value, lookups_of};
 use lookup_text::{SectionText, Table, read_batch, read_table};
 use std::alloc::{AllocError, Global};
 
 fn baby_bear(number: u64) -> BabyBear {
-    element_of::<2_013_265_921, BabyBearParameters>(number)
+    times_one(number)
 }
 
 // 2013265921 + 5 is 5, and 2^64 - 1 = 9162596893 * 2013265921 + 1172168162.
@@ -25,10 +25,7 @@ fn numbers(rt: HostRuntime) {
     );
     holds(&rt, "one above", of(2_013_265_926) == 5);
     holds(&rt, "the greatest", of(u64::MAX) == 1_172_168_162);
-    let Ok(elements) = elements_of::<2_013_265_921, BabyBearParameters>(
-        rt.alloc(),
-        &[7, 2_013_265_921],
-    ) else {
+    let Ok(elements) = elements_of::<BabyBear>(rt.alloc(), &[7, 2_013_265_921]) else {
         return holds(&rt, "memory", false);
     };
     holds(
@@ -117,10 +114,30 @@ fn lookups(rt: HostRuntime) {
     let Some(said) = said(rt.alloc()) else {
         return holds(&rt, "the text is read", false);
     };
-    match lookups_over::<2_013_265_921, BabyBearParameters>(rt.alloc(), TEXT, &said.lookups) {
+    match lookups_over::<BabyBear>(rt.alloc(), TEXT, &said.lookups) {
         Ok(lookups) => holds(&rt, "both lookups", are_both(&lookups)),
         Err(_) => holds(&rt, "two lookups", false),
     }
+}
+
+// 2^64 - 1 = 7 * 2635249153387078802 + 1; and it is 2^32 - 2 above the modulus of Goldilocks.
+#[test]
+fn words(rt: HostRuntime) {
+    holds(&rt, "zeros", number(b"007", 8) == Some(7));
+    holds(&rt, "not below", number(b"8", 8).is_none());
+    holds(&rt, "no digit", number(b"+7", 8).is_none());
+    let greatest = times_one::<F7>(u64::MAX);
+    holds(&rt, "2^64 - 1 modulo 7", greatest == F7::ONE);
+    let greatest = times_one::<Goldilocks>(u64::MAX).as_canonical_u64();
+    holds(&rt, "and over Goldilocks", greatest == 4_294_967_294);
+    holds(&rt, "of F7", F7::from_word(b"6") == Some(F7::new(6)));
+    let pair = Goldilocks2::new([times_one(3), times_one(1)]);
+    holds(&rt, "two", Goldilocks2::from_word(b"3,1") == Some(pair));
+    holds(
+        &rt,
+        "three of four",
+        BabyBear4::from_word(b"1,2,3").is_none(),
+    );
 }
 
 /// The table of two columns with these numbers.
@@ -147,7 +164,7 @@ fn traces(rt: HostRuntime) {
     if !has_whole_rows(&whole) {
         return holds(&rt, "two rows", false);
     }
-    match matrix_of::<2_013_265_921, BabyBearParameters>(alloc, &whole) {
+    match matrix_of::<BabyBear>(alloc, &whole) {
         Ok(matrix) => holds(
             &rt,
             "two by two",

@@ -1,12 +1,12 @@
 //! Batches, judged.
 use super::holds;
-use field::BabyBearParameters;
+use field::{BabyBear, BabyBear4};
 use lookup_files::{NamedFile, read_shapes, read_tables};
 use lookup_judge::{PlanReport, Report, judge, judge_plan};
 use lookup_text::{BatchText, read_batch};
 use std::alloc::{AllocError, Global};
 
-const MODULUS: u32 = 2_013_265_921;
+const MODULUS: u64 = 2_013_265_921;
 
 /// Two AIRs on one bus: what the first sends the second receives, but for the 3.
 pub(crate) const TEXT: &[u8] = b"bus b(value)
@@ -33,11 +33,11 @@ pub(crate) fn files(alloc: Global, received: &[u8]) -> Result<Vec<NamedFile>, Al
 }
 
 /// What is found over those files.
-fn found(alloc: Global, received: &[u8]) -> Option<Report<field::BabyBear>> {
+fn found(alloc: Global, received: &[u8]) -> Option<Report<BabyBear>> {
     let batch: BatchText = read_batch(alloc, TEXT).ok()?;
     let files = files(alloc, received).ok()?;
-    let tables = read_tables(alloc, TEXT, &batch, &files, u64::from(MODULUS)).ok()?;
-    judge::<MODULUS, BabyBearParameters>(alloc, TEXT, &batch, &tables, 4, 3).ok()
+    let tables = read_tables(alloc, TEXT, &batch, &files, MODULUS).ok()?;
+    judge::<BabyBear, BabyBear4>(alloc, TEXT, &batch, &tables, 4, 3).ok()
 }
 
 // Each of both lookups has degree 2 and weight 1, on three rows.
@@ -74,8 +74,8 @@ query b(y)
 
 fn plan(alloc: Global) -> Option<PlanReport> {
     let batch = read_batch(alloc, PLANNED).ok()?;
-    let shapes = read_shapes(alloc, PLANNED, &batch, &[], u64::from(MODULUS)).ok()?;
-    judge_plan::<MODULUS, BabyBearParameters>(alloc, PLANNED, &batch, &shapes, 3).ok()
+    let shapes = read_shapes(alloc, PLANNED, &batch, &[], MODULUS).ok()?;
+    judge_plan::<BabyBear, BabyBear4>(alloc, PLANNED, &batch, &shapes, 3).ok()
 }
 
 #[test]

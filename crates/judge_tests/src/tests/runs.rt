@@ -1,7 +1,7 @@
 //! Whole runs, over streams in memory.
 use super::holds;
 use super::judgements::{TEXT, files};
-use lookup_judge::{RunRefusal, refuse, run};
+use lookup_judge::{Inputs, RunRefusal, bits_of, refuse, run};
 use std::alloc::{AllocError, Global};
 use std::process::ExitCode;
 
@@ -21,7 +21,12 @@ fn end_of(alloc: Global, words: &[&str], received: &[u8]) -> Result<End, AllocEr
     }
     let files = files(alloc, received)?;
     let (mut output, mut errors) = (Vec::new(alloc), Vec::new(alloc));
-    let status = run(alloc, &given, TEXT, &files, &mut output, &mut errors);
+    let inputs = Inputs {
+        text: TEXT,
+        files: files.as_slice(),
+        witness: b"",
+    };
+    let status = run(alloc, &given, inputs, &mut output, &mut errors);
     Ok(End {
         status,
         output,
@@ -73,13 +78,29 @@ fn commands(rt: HostRuntime) {
         "show as JSON",
         ends(alloc, &["show", "f", "--json"], received, 0),
     );
+    let bits = ["bits", "--messages", "8", "--target", "119"];
     holds(
         &rt,
-        "bits",
-        ends(alloc, &["bits", "--messages", "8"], received, 0),
+        "119 bits of 123 less 4",
+        ends(alloc, &bits, received, 0),
     );
+    let bits = ["bits", "--messages", "8", "--target", "120"];
+    holds(&rt, "and not 120", ends(alloc, &bits, received, 1));
     holds(&rt, "help", ends(alloc, &["--help"], received, 0));
     holds(&rt, "no words", ends(alloc, &[], received, 2));
+}
+
+#[test]
+fn bits_left(rt: HostRuntime) {
+    let size = 16_428_751_811_598_850_197_311_699_254_593_454_081;
+    holds(&rt, "96 of them", bits_of(size, 96) == Some(117));
+    holds(&rt, "one of them", bits_of(size, 1) == Some(123));
+    holds(&rt, "all of them", bits_of(size, size) == Some(0));
+    holds(&rt, "too many", bits_of(size, size + 1).is_none());
+    holds(&rt, "none", bits_of(size, 0).is_none());
+    holds(&rt, "a power of two", bits_of(64, 2) == Some(5));
+    holds(&rt, "just below one", bits_of(63, 2) == Some(4));
+    holds(&rt, "the greatest", bits_of(u128::MAX, 1) == Some(127));
 }
 
 #[test]

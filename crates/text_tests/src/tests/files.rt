@@ -2,8 +2,8 @@
 use super::examples::{MEMORY, PROCESSOR};
 use super::holds;
 use lookup_files::{
-    AirShape, AirTables, NamedFile, TableFault, TableRefusal, TableWhy, files_of, read_shapes,
-    read_tables,
+    AirShape, AirTables, NamedFile, TableFault, TableRefusal, TableWhy, content_of, files_of,
+    read_shapes, read_tables,
 };
 use lookup_text::{BatchText, Why, read_batch};
 use std::alloc::{AllocError, Global};
@@ -57,6 +57,21 @@ fn some_files(alloc: Global) -> Result<Vec<NamedFile>, AllocError> {
         content: None,
     };
     Ok(Vec::from_array(alloc, [good, bad, none])?)
+}
+
+#[test]
+fn contents(rt: HostRuntime) {
+    let Ok(files) = some_files(rt.alloc()) else {
+        return holds(&rt, "memory", false);
+    };
+    match content_of(&files, b"bad.csv") {
+        Some(content) => holds(&rt, "the second file", is(content, b"a\nx\n")),
+        None => holds(&rt, "the second file", false),
+    }
+    let none = content_of(&files, b"none.csv").is_none();
+    holds(&rt, "one that cannot be read", none);
+    let other = content_of(&files, b"other.csv").is_none();
+    holds(&rt, "another one", other);
 }
 
 /// The tables of a text over these files, with modulus 7, or why not. `None` where the text is not

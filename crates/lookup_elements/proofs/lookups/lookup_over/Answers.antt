@@ -1,6 +1,6 @@
 use Rattle.std.proofs.Common.{◌≡◌, ◌∙◌, List, arith, ap, map, option_map, refl, sym}
 use Rattle.lookup_names.specs.Lookups.{SentPart, column_of, part_of}
-use Rattle.field.specs.Residue.{residue_of}
+use Rattle.field.specs.Ring.{of_nat}
 use Rattle.lookup_names.specs.declared.air.NamedPart.{NamedPart}
 use Rattle.lookup_elements.specs.Columns.{flag_or_one}
 use Rattle.lookup_elements.specs.Expressions.{tree_in}
@@ -10,7 +10,7 @@ use Rattle.lookup_elements.proofs.lookups.lookup_over.Goals.{then-named+in_ok-fl
 
 pub returns-clause-lookup : goal.returns-clause-lookup
 returns-clause-lookup g c =
-    let element = residue_of g.row.P g.K.MontyParameters.positive in
+    let element = of_nat g.F.PrimeCharacteristicRing.ring in
     let ps = map part_of c.args.named.now.parts.items in (
       outline_made element c.args.text.now c.args.column c.args.named.now (record { kind = c.in_ok-kind.kind; elements = c.in_ok-elements.elements; multiplicities = c.in_ok-multiplicities.multiplicities; count_weight = c.in-Some.count_weight; column = c.args.column; flags = c.if-named.flags }) c.deref.result.now c.deref-2.result.now c.in_ok-kind.ensures.0 c.deref.ensures.value c.in_ok-elements.ensures c.deref-2.ensures.value c.in_ok-multiplicities.ensures c.in-Some.ensures refl
           (elim c.if-named.branch [
@@ -21,4 +21,4 @@ returns-clause-lookup g c =
     )
 
 pub returns-clause-record : goal.returns-clause-record
-returns-clause-record g c = (refl, lengths_made (residue_of g.row.P g.K.MontyParameters.positive) c.args.text.now c.args.column (column_of c.args.named.now) (record { kind = c.in_ok-kind.kind; elements = c.in_ok-elements.elements; multiplicities = c.in_ok-multiplicities.multiplicities; count_weight = c.in-Some.count_weight; column = c.args.column; flags = c.if-named.flags }) (returns-clause-lookup g c).0)
+returns-clause-record g c = (refl, lengths_made (of_nat g.F.PrimeCharacteristicRing.ring) c.args.text.now c.args.column (column_of c.args.named.now) (record { kind = c.in_ok-kind.kind; elements = c.in_ok-elements.elements; multiplicities = c.in_ok-multiplicities.multiplicities; count_weight = c.in-Some.count_weight; column = c.args.column; flags = c.if-named.flags }) (returns-clause-lookup g c).0)

@@ -1,6 +1,6 @@
 use Rattle.std.proofs.Common.{ap, arith, inl, inr, length}
 use Rattle.std.proofs.lemmas.List.{length_push}
-use Rattle.field.specs.Residue.{residue_of}
+use Rattle.field.specs.Ring.{of_nat}
 use Rattle.lookup_elements.proofs.ColumnLaws.{first_refused, made_next, outlines_next, records_next, refused_is}
 use Rattle.lookup_elements.proofs.lookups.lookups_over.Goals as goal
 
@@ -17,7 +17,7 @@ loop-index-preserved g c =
     let x = c.index-named-index.result in
     let l = c.in_ok-lookup_over.field-0 in
     record {
-      outlines = outlines_next (residue_of g.row.P g.K.MontyParameters.positive) c.args.text.now named i x c.loop-index.lookups.items _ l c.loop-index-test.true c.index-named-index.is c.in_ok-push.ensures.items c.in_ok-lookup_over.ensures.lookup.0 c.loop-index.invariant.outlines;
+      outlines = outlines_next (of_nat g.F.PrimeCharacteristicRing.ring) c.args.text.now named i x c.loop-index.lookups.items _ l c.loop-index-test.true c.index-named-index.is c.in_ok-push.ensures.items c.in_ok-lookup_over.ensures.lookup.0 c.loop-index.invariant.outlines;
       made = made_next c.args.text.now named i x c.loop-index-test.true c.index-named-index.is c.in_ok-lookup_over.ensures.lookup.1 c.loop-index.invariant.made;
       records = records_next c.loop-index.lookups.items _ l i c.in_ok-push.ensures.items c.loop-index.invariant.as_many c.in_ok-lookup_over.ensures.record c.loop-index.invariant.records;
       as_many = omega (arith, ap length c.in_ok-push.ensures.items, length_push c.loop-index.lookups.items l, c.loop-index.invariant.as_many);

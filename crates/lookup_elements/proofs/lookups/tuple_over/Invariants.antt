@@ -1,6 +1,6 @@
 use Rattle.std.proofs.Common.{◌≡◌, ◌++◌, drop, map, take}
 use Rattle.expressions.specs.Tree.{tree_of}
-use Rattle.field.specs.Residue.{residue_of}
+use Rattle.field.specs.Ring.{of_nat}
 use Rattle.lookup_names.specs.Lookups.{part_of}
 use Rattle.lookup_names.specs.Values.{meant_of}
 use Rattle.lookup_elements.specs.Columns.{flag_or_one}
@@ -8,4 +8,4 @@ use Rattle.lookup_elements.specs.Expressions.{tree_in}
 use Rattle.lookup_elements.proofs.lookups.tuple_over.Given as goal
 
 abbrev pub invariant-loop-value : goal.invariant-loop-value
-invariant-loop-value g l = map tree_of l.tuple.items ≡ map (tree_in (residue_of g.row.P g.K.MontyParameters.positive)) (map meant_of (take l.value-index l.values))
+invariant-loop-value g l = map tree_of l.tuple.items ≡ map (tree_in (of_nat g.F.PrimeCharacteristicRing.ring)) (map meant_of (take l.value-index l.values))

@@ -1,6 +1,6 @@
 use Rattle.std.proofs.Common.{◌≡◌, ◌++◌, drop, map, take}
 use Rattle.expressions.specs.Tree.{tree_of}
-use Rattle.field.specs.Residue.{residue_of}
+use Rattle.field.specs.Ring.{of_nat}
 use Rattle.lookup_names.specs.Lookups.{part_of}
 use Rattle.lookup_names.specs.Values.{meant_of}
 use Rattle.lookup_elements.specs.Columns.{flag_or_one}
@@ -8,4 +8,4 @@ use Rattle.lookup_elements.specs.Expressions.{tree_in}
 use Rattle.lookup_elements.proofs.lookups.tuples_over.Given as goal
 
 abbrev pub invariant-loop-part : goal.invariant-loop-part
-invariant-loop-part g l = map (λ tuple. map tree_of tuple.items) l.tuples.items ≡ map (λ p. map (tree_in (residue_of g.row.P g.K.MontyParameters.positive)) p.message.tuple) (map part_of (take l.part-index l.parts))
+invariant-loop-part g l = map (λ tuple. map tree_of tuple.items) l.tuples.items ≡ map (λ p. map (tree_in (of_nat g.F.PrimeCharacteristicRing.ring)) p.message.tuple) (map part_of (take l.part-index l.parts))

@@ -1,6 +1,6 @@
 use Rattle.std.proofs.Common.{◌∙◌, ap, map, refl, sym}
 use Rattle.std.proofs.lemmas.List.{length-map}
-use Rattle.field.specs.Residue.{residue_of}
+use Rattle.field.specs.Ring.{of_nat}
 use Rattle.air.specs.Traces.{air_traces}
 use Rattle.lookup_names.specs.Lookups.{said_by_items, said_of}
 use Rattle.lookup_text.specs.Batches.{air_of, section_of}
@@ -14,12 +14,12 @@ returns-in-None-clause-said g c =
     let main = c.args.tables.now.main in
     let long = sym (length-map main.names.items (λ name. name.items)) in
     let columns = ap (map (λ name. name.items)) c.deref.ensures.value in
-    let public_values = c.in_ok-public_values.ensures ∙ ap (map (residue_of g.row.P g.K.MontyParameters.positive)) c.deref-2.ensures.value in (
+    let public_values = c.in_ok-public_values.ensures ∙ ap (map (of_nat g.F.PrimeCharacteristicRing.ring)) c.deref-2.ensures.value in (
       said_of c.in_ok-named.named,
       refl,
       record {
         items = (λ k. said_by_items sections (names_over text (sym columns k) (sym c.in_ok-fixed_names.ensures.0 k)) 0 (air_of c.args.air.now).items c.args.room) ∙ c.in_ok-named.ensures;
         lookups = c.in_ok-lookups.ensures;
-        traces = λ k. air_traces ((c.in_ok-main.ensures ∙ (λ i. record { values = map (residue_of g.row.P g.K.MontyParameters.positive) main.cells.items; width = long i })) k) (c.in_ok-fixed_names.ensures.1 k) (public_values k);
+        traces = λ k. air_traces ((c.in_ok-main.ensures ∙ (λ i. record { values = map (of_nat g.F.PrimeCharacteristicRing.ring) main.cells.items; width = long i })) k) (c.in_ok-fixed_names.ensures.1 k) (public_values k);
       },
     )

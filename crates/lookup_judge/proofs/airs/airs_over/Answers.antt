@@ -1,7 +1,7 @@
 use Rattle.std.proofs.Common.{◌≡◌, ◌∙◌, ◌<◌, ap, arith, length, map, sym}
 use Rattle.std.proofs.lemmas.List.{length-map, map_push}
 use Rattle.std.proofs.lemmas.List.Elements.{All-push, All-same}
-use Rattle.field.specs.Residue.{residue_of}
+use Rattle.field.specs.Ring.{of_nat}
 use Rattle.lookup_files.specs.Tables.{tables_of}
 use Rattle.lookup_text.specs.Batches.{air_of, section_of}
 use Rattle.lookup_judge.specs.Said.{airs_of}
@@ -20,7 +20,7 @@ loop-index-preserved g c =
     let long : length said ≡ length tables = omega (arith, c.in_ok-check_count.ensures, c.len.ensures, c.in_ok-said.said.ok.0) in
     let within : i < length said = omega (arith, c.loop-index-test.true, long) in
     record {
-      said = goes_on c.args.text.now sections 1048576 (residue_of g.row.P g.K.MontyParameters.positive) (airs_of sections) (map tables_of tables) i c.loop-index.room c.in_ok-air.left (air_of c.index.result.now.now) (tables_of table) (map over_traced c.loop-index.airs.items) _ (over_traced air)
+      said = goes_on c.args.text.now sections 1048576 (of_nat g.F.PrimeCharacteristicRing.ring) (airs_of sections) (map tables_of tables) i c.loop-index.room c.in_ok-air.left (air_of c.index.result.now.now) (tables_of table) (map over_traced c.loop-index.airs.items) _ (over_traced air)
           (next_air (λ a. air_of a.now) said (airs_of sections) i c.index.result.now within (sym c.index.ensures) c.in_ok-said.ensures)
           (image_next tables_of tables i table c.loop-index-test.true (sym c.index-tables-index.is))
           (ap (map over_traced) c.in_ok-push.ensures.items ∙ map_push over_traced c.loop-index.airs.items air)
@@ -33,6 +33,6 @@ returns-clause-said g c =
     let sections = map section_of c.args.batch.now.sections.items in
     let said = c.in_ok-said.said.items in
     let tables = c.args.tables.now in
-    all_gone c.args.text.now sections 1048576 (residue_of g.row.P g.K.MontyParameters.positive) (airs_of sections) (map tables_of tables) c.loop-index.index c.loop-index.room (map over_traced c.loop-index.airs.items)
+    all_gone c.args.text.now sections 1048576 (of_nat g.F.PrimeCharacteristicRing.ring) (airs_of sections) (map tables_of tables) c.loop-index.index c.loop-index.room (map over_traced c.loop-index.airs.items)
     (omega (arith, c.loop-index-test.false, c.in_ok-check_count.ensures, c.len.ensures, c.in_ok-said.said.ok.0, ap length c.in_ok-said.ensures, length-map said (λ a. air_of a.now)))
     (omega (arith, c.loop-index-test.false, length-map tables tables_of)) c.loop-index.invariant.said

@@ -1,5 +1,5 @@
 use Rattle.std.proofs.Common.{map}
-use Rattle.field.specs.Residue.{residue_of}
+use Rattle.field.specs.Ring.{of_nat}
 use Rattle.lookup_files.specs.Tables.{tables_of}
 use Rattle.lookup_text.specs.Batches.{section_of}
 use Rattle.lookup_judge.specs.Said.{airs_of}
@@ -9,6 +9,6 @@ use Rattle.lookup_judge.proofs.airs.airs_over.Given as goal
 
 abbrev pub invariant-loop-index : goal.invariant-loop-index
 invariant-loop-index g l = let sections = map section_of l.batch.sections.items in record {
-  said : GoesOn l.text sections 1048576 (residue_of g.row.P g.K.MontyParameters.positive) (airs_of sections) (map tables_of l.tables) l.index l.room (map over_traced l.airs.items);
+  said : GoesOn l.text sections 1048576 (of_nat g.F.PrimeCharacteristicRing.ring) (airs_of sections) (map tables_of l.tables) l.index l.room (map over_traced l.airs.items);
   fit : AreFittingAirs l.airs.items;
 }

@@ -1,39 +1,44 @@
-use Rattle.std.proofs.Common.{◌∙◌, ap, map, sym}
+use Rattle.std.proofs.Common.{◌≡◌, ◌∙◌, ap, map, subst, sym}
 use Rattle.std.proofs.lemmas.Simd.{map-map}
 use Rattle.batch.specs.Runs.{plan_of}
 use Rattle.batch.specs.Traces.{view_of}
-use Rattle.field.specs.Residue.{Residue}
 use Rattle.lookup_debug.specs.BusTable.{row_of}
 use Rattle.lookup_debug.specs.Contributions.{Traced, traced_of}
 use Rattle.lookup_debug.specs.Signs.{is_negative}
-use Rattle.lookup_judge.specs.Found.{sized_of}
+use Rattle.lookup_judge.specs.Found.{IsPlanOf, sized_of}
 use Rattle.lookup_judge.specs.internal.Airs.{over_traced, size_of}
 use Rattle.lookup_judge.proofs.FittingLaws.{fitting_instances}
 use Rattle.lookup_judge.proofs.JudgeLaws.{balanced_over, planned_over}
 use Rattle.lookup_judge.proofs.judgement.judge.Goals as goal
 
 pub bus_table-requires-clause-fit : goal.bus_table-requires-clause-fit
-bus_table-requires-clause-fit g c = λ k d lt. (fitting_instances c.deref-5.result.now c.in_ok-airs.airs.items c.deref-6.result.now c.in_ok-instances.instances.items c.deref-5.ensures.value c.deref-6.ensures.value c.in_ok-instances.ensures c.in_ok-airs.ensures.fit k d lt).fit
+bus_table-requires-clause-fit g c = λ k d lt. (fitting_instances c.deref-3.result.now c.in_ok-airs.field-0.airs.items c.deref-4.result.now c.in_ok-instances.instances.items c.deref-3.ensures.value c.deref-4.ensures.value c.in_ok-instances.ensures c.in_ok-airs.ensures.fit k d lt).fit
 
 pub bus_table-requires-clause-heights : goal.bus_table-requires-clause-heights
-bus_table-requires-clause-heights g c = λ k d lt. (fitting_instances c.deref-5.result.now c.in_ok-airs.airs.items c.deref-6.result.now c.in_ok-instances.instances.items c.deref-5.ensures.value c.deref-6.ensures.value c.in_ok-instances.ensures c.in_ok-airs.ensures.fit k d lt).heights
+bus_table-requires-clause-heights g c = λ k d lt. (fitting_instances c.deref-3.result.now c.in_ok-airs.field-0.airs.items c.deref-4.result.now c.in_ok-instances.instances.items c.deref-3.ensures.value c.deref-4.ensures.value c.in_ok-instances.ensures c.in_ok-airs.ensures.fit k d lt).heights
+
+pub report_plan-requires : goal.report_plan-requires
+report_plan-requires g c =
+    let sizes = ap (map size_of) c.deref-7.ensures.value ∙ (c.in_ok-sizes.ensures ∙ ap (map (λ a. sized_of (over_traced a))) c.deref-6.ensures.value) in
+    subst (λ s. IsPlanOf s (plan_of c.in_ok-airs.field-0.plan)) (sym sizes) c.in_ok-airs.ensures.planned
 
 pub returns : goal.returns
 returns g c =
-    let airs = c.in_ok-airs.airs.items in
+    let airs = c.in_ok-airs.field-0.airs.items in
     let traced = map over_traced airs in
-    let sizes = ap (map size_of) c.deref-8.ensures.value ∙ (c.in_ok-sizes.ensures ∙ (ap (map (λ a. sized_of (over_traced a))) c.deref.ensures.value ∙ sym (map-map sized_of over_traced airs))) in
-    let traces = ap (map view_of) c.deref-4.ensures.value ∙ (c.in_ok-traces.ensures ∙ (ap (map (λ a. (over_traced a).traces)) c.deref-3.ensures.value ∙ sym (map-map (λ (t : Traced _). t.traces) over_traced airs))) in
-    let instances = ap (map traced_of) c.deref-6.ensures.value ∙ (c.in_ok-instances.ensures ∙ ap (map over_traced) c.deref-5.ensures.value) in
-    let found = balanced_over _ _ (map traced_of c.deref-6.result.now) traced instances c.in_ok-groups.groups.items c.deref-7.result.now c.all_balance-balanced.result c.args.limit (is_negative g.row.P (λ (x : Residue g.row.P). x.value)) (map row_of c.in_ok-groups.groups.items) c.deref-7.ensures.value c.all_balance-balanced.ensures c.in_ok-groups.ensures.balance c.in_ok-groups.ensures.rows in (
-      sym c.check_buses.ensures ∙ c.in_ok-check_buses.was,
+    let plan = plan_of c.in_ok-airs.field-0.plan in
+    let sizes = ap (map size_of) c.deref-7.ensures.value ∙ (c.in_ok-sizes.ensures ∙ (ap (map (λ a. sized_of (over_traced a))) c.deref-6.ensures.value ∙ sym (map-map sized_of over_traced airs))) in
+    let traces = ap (map view_of) c.deref-2.ensures.value ∙ (c.in_ok-traces.ensures ∙ (ap (map (λ a. (over_traced a).traces)) c.deref.ensures.value ∙ sym (map-map (λ (t : Traced _). t.traces) over_traced airs))) in
+    let instances = ap (map traced_of) c.deref-4.ensures.value ∙ (c.in_ok-instances.ensures ∙ ap (map over_traced) c.deref-3.ensures.value) in
+    let found = balanced_over _ _ (map traced_of c.deref-4.result.now) traced instances c.in_ok-groups.groups.items c.deref-5.result.now c.all_balance-balanced.result c.args.limit (is_negative g.F.PrimeCharacteristicRing.CHARACTERISTIC g.F.SignedField.number) (map row_of c.in_ok-groups.groups.items) c.deref-5.ensures.value c.all_balance-balanced.ensures c.in_ok-groups.ensures.balance c.in_ok-groups.ensures.rows in (
+      c.in_ok-airs.ensures.said.0,
       traced,
-      c.in_ok-airs.ensures.said,
+      c.in_ok-airs.ensures.said.1,
       record {
-        plan = plan_of c.in_ok-plan.plan;
-        planned = planned_over _ _ c.args.max_degree (map size_of c.deref-8.result.now) (map sized_of traced) (plan_of c.in_ok-plan.plan) c.in_ok-plan-2.plan sizes c.in_ok-plan-2.ensures;
+        plan = plan;
+        planned = planned_over _ _ c.args.max_degree (map size_of c.deref-7.result.now) (map sized_of traced) plan c.in_ok-plan.plan sizes c.in_ok-plan.ensures;
         counts = record {
-          traces = c.deref-4.result.now;
+          traces = c.deref-2.result.now;
           traces_are = traces;
           fit = c.in_ok-counts.ensures.answer.0;
           flags = c.in_ok-counts.ensures.answer.1;

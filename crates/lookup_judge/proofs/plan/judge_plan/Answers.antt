@@ -4,7 +4,7 @@ use Rattle.std.proofs.lemmas.List.{length-map}
 use Rattle.std.proofs.lemmas.Result.{IfOk-weaker}
 use Rattle.std.proofs.lemmas.Slice.Zip.{AllZip-long}
 use Rattle.batch.specs.Runs.{plan_of}
-use Rattle.field.specs.Residue.{residue_of}
+use Rattle.field.specs.Ring.{of_nat}
 use Rattle.lists.proofs.Zips.{AllZip-images}
 use Rattle.lookup.specs.Lookups.{lookups_of}
 use Rattle.lookup_files.specs.Shapes.{shape_of}
@@ -31,7 +31,7 @@ returns g c =
     let shapes = map shape_of c.args.shapes.now in
     let sets = c.in_ok-sets.sets.items in
     let named = c.in_ok-named.named.items in
-    let element = residue_of g.row.P g.K.MontyParameters.positive in
+    let element = of_nat g.F.PrimeCharacteristicRing.ring in
     let lookups = AllZip-images (AreLookupsOf element c.args.text.now) said_of lookups_of c.deref.result.now sets c.in_ok-sets.ensures in
     let sizes = ap (map size_of) c.deref-4.ensures.value ∙ (c.in_ok-airs.ensures ∙ ap (λ ss. sized_over (map lookups_of ss) shapes) c.deref-2.ensures.value) in
     let said = subst (λ ns. AllZip (AreLookupsOf element c.args.text.now) (map said_of ns) (map lookups_of sets)) c.deref.ensures.value lookups in

@@ -1,10 +1,10 @@
 use Rattle.std.proofs.Common.{take}
 use Rattle.std.specs.List.{AllZip}
-use Rattle.field.specs.Residue.{residue_of}
+use Rattle.field.specs.Ring.{of_nat}
 use Rattle.lookup.specs.Lookups.{lookups_of}
 use Rattle.lookup_judge.specs.Said.{AreLookupsOf}
 use Rattle.lookup_names.specs.Lookups.{said_of}
 use Rattle.lookup_judge.proofs.plan.sets_over.Given as goal
 
 abbrev pub invariant-loop-index : goal.invariant-loop-index
-invariant-loop-index g l = AllZip (λ air set. AreLookupsOf (residue_of g.row.P g.K.MontyParameters.positive) l.text (said_of air) (lookups_of set)) (take l.index l.named) l.sets.items
+invariant-loop-index g l = AllZip (λ air set. AreLookupsOf (of_nat g.F.PrimeCharacteristicRing.ring) l.text (said_of air) (lookups_of set)) (take l.index l.named) l.sets.items

@@ -7,7 +7,7 @@ use Rattle.lookup_program.specs.declared.traces.AirTrace.{AirTrace}
 use Rattle.lookup_program.specs.internal.Traces.{IsTraceOf}
 use Rattle.lookup_program.proofs.MismatchLaws.{flags_boolean}
 use Rattle.lookup_program.specs.Report.{verdict_line}
-use Rattle.lookup_program.specs.internal.Fields.{run_fields}
+use Rattle.field_words.specs.Fields.{run_fields}
 use Rattle.lookup_program.proofs.VerdictLaws.{after_nothing, report_is}
 use Rattle.lookup_program.proofs.report.report_of.Goals.{then-balanced, else-balanced}
 use Rattle.lookup_program.proofs.report.report_of.Goals as goal

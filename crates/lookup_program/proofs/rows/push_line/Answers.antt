@@ -1,8 +1,9 @@
 use Rattle.std.proofs.Common.{◌≡◌, ◌-◌, ◌⊎◌, ◌++◌, ℕ, List, true, Some, map, length, inl, inr, arith, sym, ◌∙◌, ap, Option, unwrap_or}
 use Rattle.std.specs.List.{list_all}
 use Rattle.std.proofs.lemmas.List.{length-append, length-map, map-append}
-use Rattle.lookup_program.specs.Words.{is_number, number_of, words_of}
-use Rattle.lookup_program.specs.internal.Words.{number_bound, numbers_or_zeros}
+use Rattle.lookup_program.specs.Words.{words_of}
+use Rattle.field_words.specs.Words.{is_number, number_of, number_bound}
+use Rattle.lookup_program.specs.internal.Words.{numbers_or_zeros}
 use Rattle.lookup_program.proofs.InputLaws.{numbers-written, refusal-bad_number, refusal-none, refusal-wrong_count}
 use Rattle.lookup_program.proofs.rows.push_line.Goals as goal
 

@@ -2,9 +2,10 @@ use Rattle.std.proofs.Common.{◌≡◌, ◌++◌, filter, map, refl, rules, sym
 use Rattle.std.specs.List.{list_all}
 use Rattle.std.proofs.lemmas.Iterator.Consumers.{YieldsList-end}
 use Rattle.std.proofs.lemmas.List.{append-nil}
-use Rattle.lookup_program.specs.Words.{has_bytes, is_number, separates_words, words_of}
-use Rattle.lookup_program.specs.internal.Words.{number_bound, numbers_or_zeros}
-use Rattle.lookup_program.proofs.PartLaws.{split-parts}
+use Rattle.lookup_program.specs.Words.{has_bytes, separates_words, words_of}
+use Rattle.field_words.specs.Words.{is_number, number_bound}
+use Rattle.lookup_program.specs.internal.Words.{numbers_or_zeros}
+use Rattle.field_words.proofs.PartLaws.{split-parts}
 use Rattle.lookup_program.proofs.rows.push_words.Goals as goal
 
 pub loop-word-init : goal.loop-word-init

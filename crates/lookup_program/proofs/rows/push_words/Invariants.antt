@@ -1,8 +1,9 @@
 use Rattle.std.proofs.Common.{◌≡◌, ◌++◌, filter, map}
 use Rattle.std.specs.List.{list_all, slice_split}
 use Rattle.std.proofs.lemmas.Iterator.{YieldsList}
-use Rattle.lookup_program.specs.Words.{has_bytes, is_number, separates_words}
-use Rattle.lookup_program.specs.internal.Words.{number_bound, numbers_or_zeros}
+use Rattle.lookup_program.specs.Words.{has_bytes, separates_words}
+use Rattle.field_words.specs.Words.{is_number, number_bound}
+use Rattle.lookup_program.specs.internal.Words.{numbers_or_zeros}
 use Rattle.lookup_program.proofs.rows.push_words.Given as goal
 
 abbrev pub invariant-loop-word : goal.invariant-loop-word

@@ -6,10 +6,10 @@ use Rattle.std.proofs.lemmas.List.{length-map, length_push, map_push}
 use Rattle.std.proofs.lemmas.Option.{slice_get_read}
 use Rattle.std.proofs.lemmas.Result.{err_from_is_err_and}
 use Rattle.lookup_program.specs.Input.{NoLineRefusedBefore, line_refusal}
-use Rattle.lookup_program.specs.Words.{lines_of, number_of, words_of}
-use Rattle.lookup_program.specs.internal.Words.{number_bound}
+use Rattle.lookup_program.specs.Words.{lines_of, words_of}
+use Rattle.field_words.specs.Words.{number_of, number_bound}
 use Rattle.lookup_program.proofs.InputLaws.{NoLineRefusedBefore-more, length-lines_of, written-more}
-use Rattle.lookup_program.proofs.PartLaws.{split-parts}
+use Rattle.field_words.proofs.PartLaws.{split-parts}
 use Rattle.lookup_program.proofs.rows.read_numbers.Goals as goal
 
 -- a whole number of rows stays one

@@ -2,8 +2,8 @@ use Rattle.std.proofs.Common.{◌≡◌, ◌%◌, length, map, vec_len, Some}
 use Rattle.std.specs.List.{flat_map}
 use Rattle.std.proofs.lemmas.Iterator.{YieldsList}
 use Rattle.lookup_program.specs.Input.{NoLineRefusedBefore}
-use Rattle.lookup_program.specs.Words.{lines_of, number_of, words_of}
-use Rattle.lookup_program.specs.internal.Words.{number_bound}
+use Rattle.lookup_program.specs.Words.{lines_of, words_of}
+use Rattle.field_words.specs.Words.{number_of, number_bound}
 use Rattle.lookup_program.proofs.rows.read_numbers.Given as goal
 
 abbrev pub invariant-loop-words : goal.invariant-loop-words

@@ -1,0 +1,8 @@
+//! Words as numbers, and as elements of fields: the challenges of a command line.
+#![tactic(auto)]
+
+mod challenge;
+mod elements;
+
+pub use challenge::{Challenge, Written, number, times_one};
+pub use elements::elements_of;
