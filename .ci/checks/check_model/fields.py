@@ -73,7 +73,3 @@ def product_of(elements):
     for element in elements:
         result = times(result, element)
     return result
-
-
-def text_of(element):
-    return b",".join(b"%d" % coefficient for coefficient in element)

@@ -120,10 +120,7 @@ def witness_told(equations, options):
         raise counting.Untold
     if not os.path.isdir(os.path.dirname(options.get("out", b"")) or b"."):
         raise Told(Answer(2, b"", re.compile(rb"(.+\n)+")))
-    text = b"" if "out" in options else witnesses.text_of(found)
-    if not witnesses.is_regular(equations):
-        raise Told(Either([refusal(ANY_REFUSAL), Answer(0, text, b"")]))
-    return text, True
+    return b"" if "out" in options else witnesses.text_of(found), True
 
 
 def any_told(equations, _options):

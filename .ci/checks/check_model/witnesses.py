@@ -107,11 +107,6 @@ def summed(rows):
     return Part(whole, accumulator)
 
 
-def is_regular(equations):
-    """Whether no denominator is zero."""
-    return all(any(equation.denominator) for equation in all_of(equations))
-
-
 def witness_of(equations):
     """The witness of plain fractions, or None where one of them has zero for its denominator."""
     if any(equation.plain is None for equation in all_of(equations)):
