@@ -99,21 +99,9 @@ fn status_of(alloc: Global, words: &[&str], witness: &[u8]) -> Result<ExitCode, 
     Ok(run(alloc, &given, inputs, &mut output, &mut errors))
 }
 
-/// Whether a command about a witness at alpha 5 and this beta ends with this status.
-fn ends(alloc: Global, command: &str, beta: &str, witness: &[u8], status: u8) -> bool {
-    let words = [
-        command, "f", "--field", "f7", "--alpha", "5", "--beta", beta,
-    ];
-    let mut all = Vec::new(alloc);
-    let more: &[&str] = if command == "accept" {
-        &["--witness", "w"]
-    } else {
-        &[]
-    };
-    if all.extend_from_slice(&words).is_err() || all.extend_from_slice(more).is_err() {
-        return false;
-    }
-    match status_of(alloc, &all, witness) {
+/// Whether a run of these words over this witness ends with this status.
+fn ends(alloc: Global, words: &[&str], witness: &[u8], status: u8) -> bool {
+    match status_of(alloc, words, witness) {
         Ok(found) => found == ExitCode::from(status),
         Err(_) => false,
     }
@@ -123,12 +111,37 @@ fn ends(alloc: Global, command: &str, beta: &str, witness: &[u8], status: u8) ->
 #[test]
 fn commands(rt: HostRuntime) {
     let alloc = rt.alloc();
-    holds(&rt, "made", ends(alloc, "witness", "2", b"", 0));
-    holds(&rt, "vanishing", ends(alloc, "witness", "5", b"", 2));
-    holds(&rt, "any", ends(alloc, "any", "2", b"", 0));
-    holds(&rt, "accepted", ends(alloc, "accept", "2", WITNESS, 0));
+    let made = [
+        "witness", "f", "--field", "f7", "--alpha", "5", "--beta", "2",
+    ];
+    holds(&rt, "made", ends(alloc, &made, b"", 0));
+    let vanishing = [
+        "witness", "f", "--field", "f7", "--alpha", "5", "--beta", "5",
+    ];
+    holds(&rt, "vanishing", ends(alloc, &vanishing, b"", 2));
+    let any = ["any", "f", "--field", "f7", "--alpha", "5", "--beta", "2"];
+    holds(&rt, "any", ends(alloc, &any, b"", 0));
+    let none = ["any", "f", "--field", "f7", "--alpha", "5", "--beta", "7"];
+    holds(&rt, "no challenge", ends(alloc, &none, b"", 2));
+}
+
+#[test]
+fn acceptances(rt: HostRuntime) {
+    let alloc = rt.alloc();
+    let accept = [
+        "accept",
+        "f",
+        "--field",
+        "f7",
+        "--alpha",
+        "5",
+        "--beta",
+        "2",
+        "--witness",
+        "w",
+    ];
+    holds(&rt, "accepted", ends(alloc, &accept, WITNESS, 0));
     let wrong = b"air 0\n0 4\n4 2\nterminal 6\n";
-    holds(&rt, "not accepted", ends(alloc, "accept", "2", wrong, 1));
-    holds(&rt, "no witness", ends(alloc, "accept", "2", b"x\n", 2));
-    holds(&rt, "no challenge", ends(alloc, "any", "7", b"", 2));
+    holds(&rt, "not accepted", ends(alloc, &accept, wrong, 1));
+    holds(&rt, "no witness", ends(alloc, &accept, b"x\n", 2));
 }
