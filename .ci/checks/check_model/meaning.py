@@ -32,8 +32,9 @@ class NoRows(Exception):
 
 
 def bytes_in(folder, name):
-    """What a file holds, or None where it cannot be read."""
+    """What a file holds, or None where it cannot be read, as where its name is not UTF-8."""
     try:
+        name.decode()
         with open(os.path.join(os.fsencode(folder), name), "rb") as file:
             return file.read()
     except (OSError, ValueError):

@@ -69,8 +69,8 @@ fn first_other_line(text: &[u8], other: &[u8]) -> usize {
     line
 }
 
-/// The witness of the lines of a text, as far as they can be read. The numbers of AIRs, leading zeros
-/// and the like are left to a look at the whole text.
+/// The witness of the lines of a text before the first that cannot be read. The numbers of AIRs,
+/// leading zeros and the like are left to a look at the whole text.
 fn rows_of<F: Field, EF: Challenge<F>>(
     alloc: Global,
     text: &[u8],
@@ -78,11 +78,9 @@ fn rows_of<F: Field, EF: Challenge<F>>(
     ensures { IfOk result IsPlainlyShaped }
 {
     let mut reading = Reading::new(alloc);
-    let mut number = 0usize;
     for line in &lines_of(alloc, text)? {
-        number = number.saturating_add(1);
         if !push_line::<F, EF>(alloc, &mut reading, line)? {
-            return Err(WitnessFault::Line(number));
+            break;
         }
     }
     finish_air(alloc, &mut reading)?;
@@ -173,15 +171,17 @@ fn set_terminal<F: Field, EF: Challenge<F>>(air: &mut AirLines<EF>, word: &[u8])
     }
 }
 
-/// Takes in the cells of a row, and returns whether they could be read and are as many as those of the
-/// rows before.
+/// Takes in the cells of a row, if they can be read and are as many as those of the rows before, and
+/// returns whether it did.
 fn push_row<F: Field, EF: Challenge<F>>(
     air: &mut AirLines<EF>,
     line: &[u8],
 ) -> Result<bool, AllocError> {
+    let before = air.cells.len();
     let mut width = 0usize;
     for word in line.split(|byte| *byte == b' ') {
         let Some(cell) = EF::from_word(word) else {
+            air.cells.truncate(before);
             return Ok(false);
         };
         air.cells.push(cell)?;
@@ -190,7 +190,11 @@ fn push_row<F: Field, EF: Challenge<F>>(
     if air.width == 0 {
         air.width = width;
     }
-    Ok(air.width == width)
+    if air.width == width {
+        return Ok(true);
+    }
+    air.cells.truncate(before);
+    Ok(false)
 }
 
 /// Moves the AIR that is being read to those before it.
