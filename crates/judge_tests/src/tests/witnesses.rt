@@ -40,6 +40,9 @@ fn texts(rt: HostRuntime) {
     let Ok(made) = witness(alloc) else {
         return holds(&rt, "memory", false);
     };
+    if made.aux.len() != made.terminals.len() {
+        return holds(&rt, "one terminal", false);
+    }
     holds(
         &rt,
         "written",
