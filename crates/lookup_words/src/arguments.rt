@@ -10,6 +10,7 @@ use clap::builder::ValueParser;
 use clap::{Arg, ArgAction};
 use std::alloc::Global;
 
+/// The file with the text of the batch.
 pub fn file_arg<'a>(alloc: Global) -> Arg<'a>
     ensures { IsArg file_rule result }
 {
@@ -19,6 +20,7 @@ pub fn file_arg<'a>(alloc: Global) -> Arg<'a>
         .help("Text of the batch")
 }
 
+/// The field, by one of these names.
 pub fn field_arg<'a>(alloc: Global, fields: &'a [&'a str]) -> Arg<'a>
     ensures { IsArg (field_rule fields.entry) result }
 {
@@ -37,12 +39,14 @@ fn flag_arg<'a>(alloc: Global, name: &'a str) -> Arg<'a>
     Arg::new(alloc, name).long(name).action(ArgAction::SetTrue)
 }
 
+/// Whether steps are told.
 pub fn progress_arg<'a>(alloc: Global) -> Arg<'a>
     ensures { IsArg progress_rule result }
 {
     flag_arg(alloc, "progress").help("Tells each step on the standard error")
 }
 
+/// Whether the answer is JSON.
 pub fn json_arg<'a>(alloc: Global) -> Arg<'a>
     ensures { IsArg json_rule result }
 {
@@ -59,6 +63,7 @@ fn number_arg<'a>(alloc: Global, name: &'a str, least: u64) -> Arg<'a>
         .value_parser(ValueParser::unsigned(least, u64::MAX))
 }
 
+/// How many faults of a bus are told.
 pub fn limit_arg<'a>(alloc: Global) -> Arg<'a>
     ensures { IsArg limit_rule result }
 {
@@ -67,6 +72,7 @@ pub fn limit_arg<'a>(alloc: Global) -> Arg<'a>
         .help("How many faults of a bus are told")
 }
 
+/// The degree that packed columns may have.
 pub fn degree_arg<'a>(alloc: Global) -> Arg<'a>
     ensures { IsArg degree_rule result }
 {
@@ -76,6 +82,7 @@ pub fn degree_arg<'a>(alloc: Global) -> Arg<'a>
         .help("Degree that packed columns may have")
 }
 
+/// The same, with no default.
 pub fn wanted_degree_arg<'a>(alloc: Global) -> Arg<'a>
     ensures { IsArg wanted_degree_rule result }
 {
@@ -85,6 +92,7 @@ pub fn wanted_degree_arg<'a>(alloc: Global) -> Arg<'a>
         .help("Degree that packed columns may have")
 }
 
+/// How many bits are wanted.
 pub fn target_arg<'a>(alloc: Global) -> Arg<'a>
     ensures { IsArg target_rule result }
 {
@@ -93,6 +101,7 @@ pub fn target_arg<'a>(alloc: Global) -> Arg<'a>
         .help("Bits that are wanted")
 }
 
+/// How many messages there are.
 pub fn messages_arg<'a>(alloc: Global) -> Arg<'a>
     ensures { IsArg messages_rule result }
 {
@@ -101,6 +110,7 @@ pub fn messages_arg<'a>(alloc: Global) -> Arg<'a>
         .help("How many distinct messages there are at most")
 }
 
+/// How many of them do not balance.
 pub fn unbalanced_arg<'a>(alloc: Global) -> Arg<'a>
     ensures { IsArg unbalanced_rule result }
 {
@@ -109,6 +119,7 @@ pub fn unbalanced_arg<'a>(alloc: Global) -> Arg<'a>
         .help("How many of them do not balance [default: all]")
 }
 
+/// The most values of a message.
 pub fn width_arg<'a>(alloc: Global) -> Arg<'a>
     ensures { IsArg width_rule result }
 {
@@ -125,6 +136,7 @@ fn text_arg<'a>(alloc: Global, name: &'a str) -> Arg<'a>
     Arg::new(alloc, name).long(name).value_name("FILE")
 }
 
+/// The first challenge.
 pub fn alpha_arg<'a>(alloc: Global) -> Arg<'a>
     ensures { IsArg alpha_rule result }
 {
@@ -134,6 +146,7 @@ pub fn alpha_arg<'a>(alloc: Global) -> Arg<'a>
         .help("First challenge")
 }
 
+/// The second challenge.
 pub fn beta_arg<'a>(alloc: Global) -> Arg<'a>
     ensures { IsArg beta_rule result }
 {
@@ -143,12 +156,14 @@ pub fn beta_arg<'a>(alloc: Global) -> Arg<'a>
         .help("Second challenge")
 }
 
+/// The file that a witness is written to.
 pub fn out_arg<'a>(alloc: Global) -> Arg<'a>
     ensures { IsArg out_rule result }
 {
     text_arg(alloc, "out").help("File that the witness is written to")
 }
 
+/// The file with a witness.
 pub fn witness_arg<'a>(alloc: Global) -> Arg<'a>
     ensures { IsArg witness_rule result }
 {
