@@ -110,35 +110,41 @@ def lookup_degree(branches, exclusive):
     return max([1 + whole, *(count + whole - values for _, values, count in degrees)])
 
 
-def packed_degrees(lookups):
-    """The degrees of the columns once the lookups of a bus share columns within the degree, in their order."""
-    alone = [lookup for lookup in lookups if lookup.bus is None or lookup.exclusive]
-    columns = [lookup_degree(lookup.branches, lookup.exclusive) for lookup in alone]
-    for bus in dict.fromkeys(lookup.bus for lookup in lookups if lookup not in alone):
-        shared = [lookup.branches for lookup in lookups if lookup not in alone and lookup.bus == bus]
-        columns += [lookup_degree(sum(cut, []), False) for cut in cuts_of(shared)]
-    return columns
+def packed_columns(lookups):
+    """The packed columns in their order, each as its degree and the numbers of its lookups."""
+    alone = [number for number, lookup in enumerate(lookups) if lookup.bus is None or lookup.exclusive]
+    others = [number for number in range(len(lookups)) if number not in alone]
+    columns = [[number] for number in alone]
+    for bus in dict.fromkeys(lookups[number].bus for number in others):
+        columns += cuts_of(lookups, [number for number in others if lookups[number].bus == bus])
+    return [(column_degree(lookups, column), column) for column in columns]
 
 
-def cuts_of(shared):
+def column_degree(lookups, column):
+    """The degree of the constraint of a column that these lookups share."""
+    branches = [branch for number in column for branch in lookups[number].branches]
+    return lookup_degree(branches, lookups[column[0]].exclusive)
+
+
+def cuts_of(lookups, shared):
     """The lookups of a bus, cut into columns, as few as can be: each column takes as many as the degree allows."""
     cuts = []
-    for branches in shared:
-        if cuts and lookup_degree(sum(cuts[-1], []) + branches, False) <= ASKED.degree:
-            cuts[-1].append(branches)
+    for number in shared:
+        if cuts and column_degree(lookups, [*cuts[-1], number]) <= ASKED.degree:
+            cuts[-1].append(number)
         else:
-            cuts.append([branches])
-    assert len(shared) > 10 or len(cuts) == fewest(shared), "another cut has fewer columns"
+            cuts.append([number])
+    assert len(shared) > 10 or len(cuts) == fewest(lookups, shared), "another cut has fewer columns"
     return cuts
 
 
-def fewest(shared):
+def fewest(lookups, shared):
     """The fewest columns of all ways to cut a list within the degree. A lookup alone may be above it."""
     if not shared:
         return 0
-    first = [sum(shared[:end], []) for end in range(1, len(shared) + 1)]
-    within = [end for end, cut in enumerate(first, 1) if end == 1 or lookup_degree(cut, False) <= ASKED.degree]
-    return 1 + min(fewest(shared[end:]) for end in within)
+    ends = range(1, len(shared) + 1)
+    within = [end for end in ends if end == 1 or column_degree(lookups, shared[:end]) <= ASKED.degree]
+    return 1 + min(fewest(lookups, shared[end:]) for end in within)
 
 
 # --- a batch ---

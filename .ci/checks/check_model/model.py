@@ -91,7 +91,7 @@ def planned(as_text, as_json):
 
     def command(options):
         of_airs = as_json if "json" in options else as_text
-        return lambda sections, folder, _text: of_airs(well_formed(meaning.planned_of(sections, folder)))
+        return lambda sections, folder, text: of_airs(text, well_formed(meaning.planned_of(sections, folder)))
 
     return command
 
@@ -153,7 +153,7 @@ def accept_told(equations, options):
 COMMANDS = {
     b"check": checked,
     b"plan": planned(telling.plan_told, objects.planned),
-    b"pack": planned(lambda airs: (telling.airs_told(airs), True), objects.packed),
+    b"pack": planned(lambda text, airs: (telling.pack_told(text, airs), True), objects.packed),
     b"witness": over_challenges(witness_told),
     b"accept": over_challenges(accept_told, lawful=False),
     b"any": over_challenges(any_told),

@@ -69,13 +69,15 @@ def name_of(name):
 
 
 def of_air(air):
+    columns = counting.packed_columns(air.lookups)
     return {
         "name": name_of(air.said.name),
         "rows": len(air.main.rows),
         "columns": len(air.main.names),
         "weight": str(sum(lookup.weight for lookup in air.lookups)),
         "degrees": [counting.lookup_degree(lookup.branches, lookup.exclusive) for lookup in air.lookups],
-        "packed_degrees": counting.packed_degrees(air.lookups),
+        "packed_degrees": [degree for degree, _ in columns],
+        "packed_lookups": [numbers for _, numbers in columns],
     }
 
 
@@ -108,11 +110,11 @@ def target(bits):
     return {"target": wanted, "meets": None if wanted is None else counting.is_met(bits)}
 
 
-def packed(airs):
+def packed(_text, airs):
     return object_of(airs=[of_air(air) for air in airs]), True
 
 
-def planned(airs):
+def planned(_text, airs):
     bits = most_bits(airs)
     return object_of(**before_traces(airs), **target(bits)), counting.is_met(bits)
 

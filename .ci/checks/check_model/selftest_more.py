@@ -62,6 +62,7 @@ OBJECTS = [
 
 FIRST = "examples/first/first.lookups --field f7 --alpha 5 --beta 2"
 MEMORY, BITS = "examples/memory/memory.lookups", "bits --messages 1000 --width 3"
+PACK = "pack examples/packing/packing.lookups --degree 3"
 ACCEPT = f"accept {FIRST} --witness examples/first"
 # Words, and what stands in the answer in place of something else. Each is one difference.
 SPOILT = [
@@ -88,6 +89,11 @@ SPOILT = [
     (f"plan {MEMORY} --json", '"target":null', '"target":0'),
     (f"plan {MEMORY} --json --target 117", '"meets":true', '"meets":false'),
     (f"pack {MEMORY} --degree 2 --json", '"packed_degrees":[2,2,2]', '"packed_degrees":[3,2]'),
+    (f"{PACK} --json", "[[0],[8],[1,3]", "[[8],[0],[1,3]"),
+    (f"{PACK} --json", "[5,7]]", "[5],[7]]"),
+    (f"{PACK}", "line 14, query of line 16", "line 14, query of line 17"),
+    (f"{PACK}", "degree 4 (above 3)", "degree 4          "),
+    (f"{PACK}", "COLUMNS", "SHARED"),
     (f"{BITS} --json", '"field":"f7","bits":0', '"field":"f7","bits":null'),
     (f"{BITS}", "  Goldilocks^2    115\n", ""),
     (f"{BITS} --target 111", "MET", "MISSED"),

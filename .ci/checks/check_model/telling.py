@@ -129,8 +129,11 @@ def flags_refused(file, text, air, fault):
 
 def table(titles, lines, right):
     """Lines of cells below titles, each column as wide as its widest cell; some are set to the right."""
-    lines = [[title.encode() for title in titles], *lines]
-    widths = [max(characters(line[column]) for line in lines) for column in range(len(titles))]
+    return lines_told([[title.encode() for title in titles], *lines], right)
+
+
+def lines_told(lines, right):
+    widths = [max(map(characters, cells)) for cells in zip(*lines)]
     told = b""
     for line in lines:
         for column, cell in enumerate(line):
@@ -145,12 +148,29 @@ def airs_told(airs):
     lines = []
     for air in airs:
         degrees = [counting.lookup_degree(it.branches, it.exclusive) for it in air.lookups]
-        packed = counting.packed_degrees(air.lookups)
+        packed = [degree for degree, _ in counting.packed_columns(air.lookups)]
         numbers = [len(air.main.rows), len(air.main.names), len(degrees), sum(it.weight for it in air.lookups)]
         cells = [shown(air.said.name), *map(grouped, numbers), spaced(degrees), grouped(len(packed)), spaced(packed)]
         lines.append(cells)
     titles = ["air", "rows", "columns", "lookups", "weight", "degrees", "packed", "degrees"]
     return b"AIRS (packed: within degree %d)\n" % ASKED.degree + table(titles, lines, {1, 2, 3, 4, 6})
+
+
+def pack_told(text, airs):
+    """The AIRs, and their packed columns."""
+    lines = []
+    for air in airs:
+        for degree, numbers in counting.packed_columns(air.lookups):
+            mark = b" (above %d)" % ASKED.degree if degree > ASKED.degree else b""
+            shared = b", ".join(called(text, air.lookups[number]) for number in numbers)
+            lines.append([shown(air.said.name), b"degree %d%s" % (degree, mark), shared])
+    columns = b"\nCOLUMNS (within degree %d)\n" % ASKED.degree + lines_told(lines, set())
+    return airs_told(airs) + (columns if lines else b"")
+
+
+def called(text, lookup):
+    """A lookup by the word that it begins with and its line."""
+    return b"%s of line %d" % (lookup.word.encode(), line_of(text, lookup.at))
 
 
 def spaced(numbers):
@@ -216,7 +236,7 @@ def unbalanced_told(text, airs, declared, group):
             lookup = air.lookups[sent.lookup]
             file = next(item.said[1] for item in air.said.items if item.kind == "trace")
             place = (grouped(signed(sent.count)), shown(file), sent.row + 2)
-            told += b"%10b at %s:%d, " % place + b"%s of line %d\n" % (lookup.word.encode(), line_of(text, lookup.at))
+            told += b"%10b at %s:%d, " % place + called(text, lookup) + b"\n"
         if len(places) > ASKED.limit:
             told += b"           and %s more places\n" % grouped(len(places) - ASKED.limit)
         told += near_told(fields, group, values, net)
@@ -268,7 +288,7 @@ def most_bits(airs):
     return counting.bits_of(*counting.most_left(airs)) if counting.most_messages(airs) else None
 
 
-def plan_told(airs):
+def plan_told(_text, airs):
     """What is told of a batch before any trace is seen, and whether the target is met."""
     bits = most_bits(airs)
     told = airs_told(airs) + heights_told(airs) + b"\nSOUNDNESS\n" + all_traces_told(airs)

@@ -77,6 +77,7 @@ struct AirObject<'a> {
     weight: String,
     degrees: &'a [usize],
     packed_degrees: &'a [usize],
+    packed_lookups: &'a [Vec<usize>],
 }
 
 /// At how few challenges a batch is accepted, whatever traces of its heights are.
@@ -257,6 +258,7 @@ fn air_objects<'a>(
             weight: decimal(alloc, air.weight)?,
             degrees: air.degrees.as_slice(),
             packed_degrees: air.packed.as_slice(),
+            packed_lookups: air.packed_lookups.as_slice(),
         })?;
     }
     Ok(objects)

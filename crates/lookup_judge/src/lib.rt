@@ -8,6 +8,7 @@
 
 mod airs;
 mod bits;
+mod columns;
 mod commands;
 mod fault;
 mod fields;
@@ -22,6 +23,7 @@ mod program;
 mod refusal;
 mod report;
 mod sections;
+mod sharing;
 mod show;
 mod sizes;
 mod unbalanced;

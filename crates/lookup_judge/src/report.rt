@@ -17,6 +17,8 @@ pub struct AirReport {
     pub degrees: Vec<usize>,
     /// The same of the columns that packing within the degree leaves.
     pub packed: Vec<usize>,
+    /// The numbers of the lookups that share each of these columns, from 0 in the order of the text.
+    pub packed_lookups: Vec<Vec<usize>>,
 }
 
 /// What is found of a batch before any trace is seen.

@@ -3,14 +3,15 @@ ghost use Rattle.std.specs.Prelude.{◌≡◌, ◌++◌, ℕ, List, OnOk};
 ghost use Rattle.lookup_judge.specs.Runs.{verdict_line};
 
 use crate::bits::push_bits;
+use crate::columns::push_columns;
 use crate::fields::TableField;
 use crate::page::{Page, head, number_cell, numbers_cell, shown_cell, word_cell};
 use crate::report::{AirReport, PlanReport, Report};
 use crate::unbalanced::push_unbalanced;
-use crate::words::bus_named;
+use crate::words::{bus_named, first_word};
 use lookup::debug_util::{BusGroup, GroupName};
 use lookup_names::bytes_of;
-use lookup_text::{AirText, BatchText};
+use lookup_text::{AirText, BatchText, ItemText};
 use lookup_words::FieldName;
 use std::alloc::AllocError;
 
@@ -38,7 +39,7 @@ pub(crate) fn push_report<F: TableField>(
     ensures { OnOk result ((front : List ℕ)
         × (page.new.bytes.items ≡ front ++ verdict_line report.now.balanced)) }
 {
-    push_airs(page, told, &report.plan.airs)?;
+    push_sizes(page, told, &report.plan.airs)?;
     push_heights(page, &report.plan)?;
     push_buses(page, told, &report.groups)?;
     push_unbalanced(page, told, &report.groups)?;
@@ -56,18 +57,24 @@ pub(crate) fn push_plan(
     told: Told<'_>,
     report: &PlanReport,
 ) -> Result<(), AllocError> {
-    push_airs(page, told, &report.airs)?;
+    push_sizes(page, told, &report.airs)?;
     push_heights(page, report)?;
     page.word("\nSOUNDNESS\n")?;
     push_all_traces(page, told, report)
 }
 
-/// Appends a line for each AIR.
+/// Appends a line for each AIR, and one for each packed column.
 pub(crate) fn push_airs(
     page: &mut Page,
     told: Told<'_>,
     airs: &[AirReport],
 ) -> Result<(), AllocError> {
+    push_sizes(page, told, airs)?;
+    push_columns(page, told, airs)
+}
+
+/// Appends a line for each AIR.
+fn push_sizes(page: &mut Page, told: Told<'_>, airs: &[AirReport]) -> Result<(), AllocError> {
     let alloc = page.alloc();
     page.word("AIRS (packed: within degree ")?;
     page.number(told.max_degree as u128)?;
@@ -99,6 +106,13 @@ pub(crate) fn air_name(told: Told<'_>, air: usize) -> &[u8] {
         Some(said) => bytes_of(told.text, said.name),
         None => &[],
     }
+}
+
+/// Appends how a lookup is told: the word with which its item begins, and its line.
+pub(crate) fn push_lookup(page: &mut Page, item: &ItemText, line: usize) -> Result<(), AllocError> {
+    page.word(first_word(item))?;
+    page.word(" of line ")?;
+    page.number(line as u128)
 }
 
 /// Appends the height bound.

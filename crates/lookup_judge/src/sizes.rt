@@ -8,6 +8,7 @@ ghost use Rattle.lookup_model.specs.LookupDegree.{lookup_degree};
 
 use crate::fault::JudgeFault;
 use crate::report::AirReport;
+use crate::sharing::sharing;
 use field::Field;
 use lookup::{LogUpGadget, LookupError, LookupProtocol, Lookups};
 use std::alloc::Global;
@@ -56,6 +57,7 @@ fn report_of<F: Field>(
         weight: air.lookups.total_count_weight(),
         degrees: degrees_of(alloc, air.lookups)?,
         packed: degrees_of(alloc, &packed)?,
+        packed_lookups: sharing(alloc, air.lookups.as_slice(), packed.as_slice())?,
     })
 }
 

@@ -1,8 +1,8 @@
 //! The tuples that do not balance, with the names and lines of their author.
 use crate::fields::TableField;
 use crate::page::{Page, characters};
-use crate::sections::{Told, group_cell};
-use crate::words::{bus_named, first_word, lookup_at, trace_file};
+use crate::sections::{Told, group_cell, push_lookup};
+use crate::words::{bus_named, lookup_at, trace_file};
 use lookup::debug_util::{BusGroup, GroupName, Location, SignedField, UnbalancedTuple};
 use lookup_names::bytes_of;
 use lookup_text::{Span, place_of};
@@ -184,9 +184,7 @@ fn push_place<F: TableField>(
     page.number(location.row as u128 + 2)?;
     if let Some(item) = lookup_at(air, location.lookup) {
         page.word(", ")?;
-        page.word(first_word(&item.item))?;
-        page.word(" of line ")?;
-        page.number(place_of(told.text, item.at).line as u128)?;
+        push_lookup(page, &item.item, place_of(told.text, item.at).line)?;
     }
     page.word("\n")
 }

@@ -72,7 +72,8 @@ pub(crate) fn lookup_at(air: &AirText, lookup: usize) -> Option<&PlacedItem> {
         .nth(lookup)
 }
 
-fn is_lookup(item: &ItemText) -> bool {
+/// Whether an item has a lookup.
+pub(crate) fn is_lookup(item: &ItemText) -> bool {
     matches!(
         item,
         ItemText::Message(_) | ItemText::Together(_) | ItemText::Exclusive(_)
