@@ -1,7 +1,9 @@
 pub mod AirLaws
 pub mod BitLaws
+pub mod CauseLaws
 pub mod FittingLaws
 pub mod JudgeLaws
 pub mod OpenedLaws
+pub mod RunRefusalLaws
 pub mod SizeLaws
 pub mod VerdictLaws

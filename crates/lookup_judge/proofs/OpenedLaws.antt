@@ -1,5 +1,5 @@
 -- From a batch that is opened to what its commands answer.
-use Rattle.std.proofs.Common.{◌≡◌, ◌∙◌, ◌<◌, ◌∷◌, ◌↔◌, ◌⊎◌, ◌+◌, ℕ, Bool, IsTrue, List, [], arith, inl, inr, map, refl, subst, sym}
+use Rattle.std.proofs.Common.{◌≡◌, ◌∙◌, ◌<◌, ◌∷◌, ◌↔◌, ℕ, Bool, IsTrue, List, [], arith, inl, inr, map, refl, subst, sym}
 use Rattle.std.proofs.lemmas.Simd.{map-map}
 use Rattle.batch.specs.Plans.{FitPlan, Plan}
 use Rattle.batch.specs.Runs.{Run, run_of}
@@ -28,7 +28,7 @@ module _ {F K : Type 0} (fields : Fields F K) (text : List ℕ) (files : List Fi
     traced = map over_traced airs;
     batch = opened.batch;
     plan = plan;
-    planned = subst (λ s. IsPlanOf s plan) (sym (map-map sized_of over_traced airs)) opened.planned;
+    planned = subst (λ s. IsPlanOf fields.characteristic s plan) (sym (map-map sized_of over_traced airs)) opened.planned;
     traces = traces;
     traces_are = same ∙ sym (map-map (λ (t : Traced F). t.traces) over_traced airs);
     alpha = alpha;

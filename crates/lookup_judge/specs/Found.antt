@@ -59,9 +59,9 @@ module _ {F : Type 0} where
   abbrev pub AreCopies : List (Sized F) → List (Lookups F) → Type 0
   AreCopies airs copies = map (λ set. map outline_of (lookups_of set)) copies ≡ map (λ a. map outline_of a.lookups) airs
 
-  -- a plan of copies of these lookups, for traces of these heights
-  abbrev pub IsPlanOf : List (Sized F) → Plan F → Type 0
-  IsPlanOf airs plan = (copies : List (Lookups F)) × AreCopies airs copies × IsPlanFor copies (map (λ a. a.rows) airs) plan
+  -- a plan of copies of these lookups over a field of characteristic p, for traces of these heights
+  abbrev pub IsPlanOf : ℕ → List (Sized F) → Plan F → Type 0
+  IsPlanOf p airs plan = (copies : List (Lookups F)) × AreCopies airs copies × IsPlanFor copies (map (λ a. a.rows) airs) plan × IsPlan p plan
 
 -- What is found of an AIR: its sizes and the degree of each lookup; and the degrees of the columns that packing
 -- copies of its lookups within a degree leaves, which are the fewest and send what those do.
@@ -82,8 +82,7 @@ module _ {F K : Type 0} (E : Extension F K) (p : ℕ) where
   -- What is found before any trace is seen: the AIRs, and the numbers of their plan.
   pub record IsPlanFound (max_degree : ℕ) (sized : List (Sized F)) (plan : Plan F) (report : PlanReport) : Type 0 where
     pub airs : AllZip (IsAirFound E.base E.base_eq max_degree) sized report.airs.items
-    pub plan_is : IsPlanOf sized plan
-    pub lawful : IsPlan p plan
+    pub plan_is : IsPlanOf p sized plan
     pub ids : report.ids ≡ plan.num_ids
     pub widest : report.widest ≡ plan.width
     pub heights : AreHeightCounts (most_planned plan.airs plan.heights) plan.width report.heights

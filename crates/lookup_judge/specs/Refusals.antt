@@ -1,12 +1,15 @@
 -- How refusals to judge come about.
+use Rattle.std.specs.Prelude.{ℕ}
 use Rattle.batch.specs.declared.error.BatchError.{BatchError}
 use Rattle.batch.specs.declared.error.BatchError.TheVariants as batch
 use Rattle.lookup_elements.specs.declared.fault.ElementFault.{ElementFault}
 use Rattle.lookup_elements.specs.declared.fault.ElementFault.TheVariants as elements
+use Rattle.lookup_model.specs.declared.error.LookupError.{LookupError}
+use Rattle.lookup_model.specs.declared.error.LookupError.TheVariants as lookup
 use Rattle.lookup_names.specs.declared.fault.NameFault.{NameFault}
 use Rattle.lookup_names.specs.declared.fault.NameFault.TheVariants as names
 use Rattle.lookup_judge.specs.declared.fault.JudgeFault.{JudgeFault}
-use Rattle.lookup_judge.specs.declared.fault.JudgeFault.TheVariants.{Batch, Element, Memory, Name}
+use Rattle.lookup_judge.specs.declared.fault.JudgeFault.TheVariants.{Batch, Element, Lookups, Memory, Name}
 
 -- the refusal of names; out of memory keeps its name
 abbrev pub of_name : NameFault → JudgeFault
@@ -22,3 +25,8 @@ of_element (elements.Refused refusal) = Element refusal
 abbrev pub of_batch : BatchError → JudgeFault
 of_batch batch.Memory = Memory
 of_batch e = Batch e
+
+-- the refusal of the lookups of an AIR; out of memory keeps its name
+abbrev pub of_lookups : ℕ → LookupError → JudgeFault
+of_lookups air lookup.Memory = Memory
+of_lookups air e = Lookups air e

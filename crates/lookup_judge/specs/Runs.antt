@@ -1,8 +1,7 @@
 -- What a run answers, writes and ends with.
-use Rattle.std.specs.Prelude.{◌≡◌, ◌⊎◌, ◌↔◌, ◌++◌, ◌-◌, ◌*◌, ℕ, Bool, true, false, IsTrue, List, Option, Some, None, Result, Ok, MatchResult, codes, cond, map, max}
+use Rattle.std.specs.Prelude.{◌≡◌, ◌⊎◌, ◌↔◌, ◌++◌, ◌-◌, ◌*◌, ℕ, Bool, true, false, IsTrue, List, Option, None, Result, Ok, MatchResult, codes, cond, map, max}
 use Rattle.std.specs.Io.KnownBytes.{Appends}
 use Rattle.std.specs.List.{AllZip}
-use Rattle.std.specs.Option.{ForSome}
 use Rattle.std.specs.declared.alloc.Global.{Global}
 use Rattle.std.specs.declared.string.String.{String}
 use Rattle.field.specs.Quartic.{Quartic}
@@ -27,13 +26,12 @@ use Rattle.lookup_words.specs.Words.{IsAsked, IsRefused}
 use Rattle.lookup_words.specs.declared.refusal.WordsRefusal.TheVariants.{Help}
 use Rattle.lookup_words.specs.declared.request.Asked.{Asked}
 use Rattle.lookup_words.specs.declared.request.Asked.TheVariants.{Batch, Bits}
-use Rattle.lookup_words.specs.declared.request.BitsRequest.{BitsRequest}
 use Rattle.lookup_words.specs.declared.request.ChallengeWords.{ChallengeWords}
 use Rattle.lookup_words.specs.declared.request.FieldName.{FieldName}
 use Rattle.lookup_words.specs.declared.request.FieldName.TheVariants.{F7, BabyBear4, KoalaBear4, Goldilocks2}
 use Rattle.lookup_words.specs.declared.request.Task.{Task}
 use Rattle.lookup_words.specs.declared.request.Task.TheVariants.{Accept, Any, Check, Pack, Plan, Show, Witness as OfWitness}
-use Rattle.batch.specs.Plans.{FitPlan, Plan as PlanOf, plan_batch}
+use Rattle.batch.specs.Plans.{FitPlan, Plan as PlanOf}
 use Rattle.batch.specs.Runs.{Proves, ProvesSatisfied, Run, run_of}
 use Rattle.batch.specs.Traces.{view_of}
 use Rattle.batch.specs.declared.trace.BatchTrace.{BatchTrace}
@@ -67,7 +65,7 @@ EndsWith json line text = json ≡ false → (front : List ℕ) × (text ≡ fro
 
 module _ {F K : Type 0} (fields : Fields F K) (text : List ℕ) (files : List File) where
   -- The lookups and the traces that the bytes of a file and the files that it names say, whose numbers are below the
-  -- characteristic: they can be read, and no bus is declared twice.
+  -- characteristic: they can be read, no bus is declared twice, tables are whole, and lookups fit them.
   pub record IsReadBatch (traced : List (Traced F)) : Type 0 where
     pub sections : List Section
     pub read : batch_at text ≡ Ok sections
@@ -123,7 +121,7 @@ module _ {F K : Type 0} (fields : Fields F K) (text : List ℕ) (files : List Fi
     pub traced : List (Traced F)
     pub batch : IsReadBatch traced
     pub plan : PlanOf F
-    pub planned : IsPlanOf (map sized_of traced) plan
+    pub planned : IsPlanOf fields.characteristic (map sized_of traced) plan
     pub traces : List (BatchTrace F)
     pub traces_are : map view_of traces ≡ map (λ t. t.traces) traced
     pub alpha : K
@@ -188,8 +186,7 @@ module _
     AnswersTo (Batch request) text files witness answer = AnswersIn request.field request.task text files witness answer
     AnswersTo (Bits request) text files witness answer = IsTrue answer.yes ↔ MeetsTarget (challenges_of request.field) request.target (request.width * (request.unbalanced - 1)) (alphas_of request.messages request.unbalanced)
 
-    -- The answer to the words of a command line: to what they ask for, or the help that they ask for, which is
-    -- yes.
+    -- The answer to the words of a command line: to what they ask for, or the help that they ask for, which is yes.
     abbrev pub IsAnswer : List (List ℕ) → List ℕ → List File → List ℕ → Answer → Type 0
     IsAnswer words text files witness answer =
         (names : Names) × HasFieldNames names

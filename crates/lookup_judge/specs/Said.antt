@@ -1,13 +1,16 @@
 -- What a text says of each AIR, over its columns and over its tables: its lookups and its traces.
-use Rattle.std.specs.Prelude.{◌≡◌, ℕ, List, [], ◌∷◌, Ok, length, map, option_map}
+use Rattle.std.specs.Prelude.{◌≡◌, ℕ, List, [], ◌∷◌, Option, None, Some, Ok, Result, length, map, option_map}
 use Rattle.air.specs.Traces.{AirTraces, air_traces}
 use Rattle.lookup_debug.specs.Contributions.{Traced}
+use Rattle.lookup_debug.specs.Fits.{FitTraces}
 use Rattle.lookup_elements.specs.Columns.{outlines_in}
+use Rattle.lookup_elements.specs.Traces.{HasWholeRows}
 use Rattle.lookup_files.specs.Shapes.{Shape, column_names}
 use Rattle.lookup_files.specs.Tables.{TablesOf}
 use Rattle.lookup_model.specs.Outline.{outline_of}
 use Rattle.lookup_model.specs.declared.types.Lookup.{Lookup}
 use Rattle.lookup_names.specs.Lookups.{Said, said_by_items}
+use Rattle.lookup_names.specs.declared.fault.NameRefusal.{NameRefusal}
 use Rattle.lookup_names.specs.Scopes.{Names}
 use Rattle.lookup_text.specs.Batches.{Air, Section, bus, air}
 use Rattle.lookup_text.specs.Tables.{Numbers}
@@ -24,15 +27,28 @@ abbrev pub names_over : List ℕ → List (List ℕ) → List (List ℕ) → Nam
 names_over text columns fixed = record { text = text; columns = columns; preprocessed = fixed; defined = [] }
 
 module _ (text : List ℕ) (sections : List Section) where
-  -- the items of an AIR say this over these columns, in room for so many nodes
+  -- what the items of an AIR say over these columns, in room for so many nodes
+  abbrev pub said_over : Air → List (List ℕ) → List (List ℕ) → ℕ → Result Said NameRefusal
+  said_over a columns fixed room = said_by_items sections (names_over text columns fixed) 0 a.items room
+
+  -- they say this
   abbrev pub SaysOver : Air → List (List ℕ) → List (List ℕ) → ℕ → Said → Type 0
-  SaysOver a columns fixed room said = said_by_items sections (names_over text columns fixed) 0 a.items room ≡ Ok said
+  SaysOver a columns fixed room said = said_over a columns fixed room ≡ Ok said
 
   -- so they do over the columns of each AIR; each AIR leaves room for those after it
   abbrev pub SayOver : ℕ → List Air → List Shape → List Said → Type 0
   SayOver room [] [] [] = Unit {0}
   SayOver room (a ∷ airs) (s ∷ ss) (x ∷ xs) = SaysOver a s.columns s.preprocessed room x × SayOver x.room airs ss xs
   SayOver room airs ss xs = ⊥
+
+-- a table has columns and rows, and each row is whole
+abbrev pub IsWhole : Numbers → Type 0
+IsWhole t = HasWholeRows (length t.0) (length t.1)
+
+-- so is a table, if there is one
+abbrev pub AreWhole : Option Numbers → Type 0
+AreWhole None = Unit {0}
+AreWhole (Some t) = IsWhole t
 
 module _ {F : Type 0} (element : ℕ → F) where
   -- a table as a trace
@@ -48,11 +64,15 @@ module _ {F : Type 0} (element : ℕ → F) where
   AreLookupsOf text said lookups = map outline_of lookups ≡ outlines_in element text 0 said.columns
 
   module _ (text : List ℕ) (sections : List Section) where
-    -- the lookups and the traces of an AIR are those that its items and its tables say
+    -- The lookups and the traces of an AIR are those that its items and its tables say; the tables are whole, and the
+    -- lookups fit them.
     pub record IsSaid (a : Air) (tables : TablesOf) (room : ℕ) (said : Said) (traced : Traced F) : Type 0 where
       pub items : SaysOver text sections a tables.main.0 (column_names tables.preprocessed) room said
       pub lookups : AreLookupsOf text said traced.lookups
       pub traces : traced.traces ≡ traces_in tables said
+      pub fixed_whole : AreWhole tables.preprocessed
+      pub main_whole : IsWhole tables.main
+      pub fit : FitTraces traced.traces traced.lookups
 
     -- so it is of each AIR, with tables for each; each AIR leaves room for those after it
     abbrev pub AreSaid : ℕ → List Air → List TablesOf → List (Traced F) → Type 0

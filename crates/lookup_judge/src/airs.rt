@@ -1,10 +1,11 @@
 //! The AIRs of a text over a field: what it says of each, over its columns or over its tables.
-ghost use Rattle.std.specs.Prelude.{◌≡◌, IfOk, map, option_map};
+ghost use Rattle.std.specs.Prelude.{◌≡◌, ◌⊎◌, IfErr, IfOk, MatchResult, map, option_map, true};
 ghost use Rattle.field.specs.Ring.{of_nat};
 ghost use Rattle.lookup.specs.Lookups.{lookups_of};
 ghost use Rattle.lookup_files.specs.Shapes.{column_names, shape_of};
 ghost use Rattle.lookup_files.specs.Tables.{tables_of};
-ghost use Rattle.lookup_judge.specs.Said.{AreLookupsOf, AreSaid, IsSaid, SayOver, airs_of, trace_in};
+ghost use Rattle.lookup_judge.specs.Causes.{IsAirRefusal, IsElementRefusal, IsMiscounted, IsSayingRefusal, IsTableRefusal};
+ghost use Rattle.lookup_judge.specs.Said.{AreLookupsOf, AreSaid, AreWhole, IsSaid, SayOver, airs_of, trace_in};
 ghost use Rattle.lookup_judge.specs.internal.Airs.{AreFittingAirs, IsFittingAir, over_traced};
 ghost use Rattle.lookup_names.specs.Lookups.{Said, said_of};
 ghost use Rattle.lookup_text.specs.Batches.{air_of, section_of};
@@ -44,9 +45,11 @@ pub(crate) fn airs_named(
     batch: &BatchText,
     shapes: &[AirShape],
 ) -> Result<Vec<NamedAir>, JudgeFault>
-    ensures { IfOk result (λ v. let sections = map section_of batch.now.sections.items in
-        SayOver text.now sections 1048576 (airs_of sections) (map shape_of shapes.now)
-        (map said_of v.items)) }
+    ensures { let sections = map section_of batch.now.sections.items in
+        let sizes = map shape_of shapes.now in
+        MatchResult result (λ v. SayOver text.now sections 1048576 (airs_of sections) sizes
+        (map said_of v.items))
+        (λ e. (e ≡ JudgeFault.Memory) ⊎ IsSayingRefusal text.now sections sizes e) }
 {
     let airs = airs_of(alloc, batch)?;
     check_count(airs.len(), shapes.len())?;
@@ -76,6 +79,9 @@ pub(crate) fn airs_over<F: Field>(
         AreSaid (of_nat F.ring) text.now sections 1048576 (airs_of sections)
         (map tables_of tables.now) (map over_traced v.items)) }
     ensures fit { IfOk result (λ v. AreFittingAirs v.items) }
+    ensures refused { IfErr result (λ e. (e ≡ JudgeFault.Memory)
+        ⊎ IsTableRefusal text.now (map section_of batch.now.sections.items) (of_nat F.ring)
+        (map tables_of tables.now) e) }
 {
     let said = airs_of(alloc, batch)?;
     check_count(said.len(), tables.len())?;
@@ -91,7 +97,7 @@ pub(crate) fn airs_over<F: Field>(
 
 /// Whether there are as many shapes or tables as AIRs.
 fn check_count(airs: usize, tables: usize) -> Result<(), JudgeFault>
-    ensures { IfOk result (λ _. airs ≡ tables) }
+    ensures { MatchResult result (λ _. airs ≡ tables) (IsMiscounted airs tables) }
 {
     if airs == tables {
         Ok(())
@@ -128,6 +134,9 @@ fn air_over<F: Field>(
         × IsSaid (of_nat F.ring) text.now (map section_of batch.now.sections.items)
         (air_of air.now) (tables_of tables.now) room said (over_traced r.0)) }
     ensures fit { IfOk result (λ r. IsFittingAir r.0) }
+    ensures refused { IfErr result (λ e. (e ≡ JudgeFault.Memory)
+        ⊎ IsAirRefusal text.now (map section_of batch.now.sections.items) (of_nat F.ring) index
+        (air_of air.now) (tables_of tables.now) room e) }
 {
     let AirTables { main, preprocessed } = tables;
     let (fixed_names, fixed) = fixed_trace(alloc, preprocessed, index)?;
@@ -162,8 +171,9 @@ pub(crate) fn lookup_set<F: Field>(
     named: &NamedAir,
     air: usize,
 ) -> Result<Lookups<F>, JudgeFault>
-    ensures { IfOk result (λ set. AreLookupsOf (of_nat F.ring) text.now
-        (said_of named.now) (lookups_of set)) }
+    ensures { MatchResult result (λ set. AreLookupsOf (of_nat F.ring) text.now
+        (said_of named.now) (lookups_of set))
+        (λ e. (e ≡ JudgeFault.Memory) ⊎ IsElementRefusal text.now (said_of named.now) e) }
 {
     let records = lookups_over(alloc, text, &named.lookups)?;
     match Lookups::from_records(alloc, records) {
@@ -178,9 +188,11 @@ fn fixed_trace<F: Field>(
     table: &Option<Table>,
     air: usize,
 ) -> Result<(&[Vec<u8>], Option<RowMajorMatrix<F>>), JudgeFault>
-    ensures { IfOk result (λ r. let numbers = option_map table_of table.now in
-        (map (λ name. name.items) r.0.now ≡ column_names numbers)
-        × (r.1 ≡ option_map (trace_in (of_nat F.ring)) numbers)) }
+    ensures { let numbers = option_map table_of table.now in
+        MatchResult result (λ r. (map (λ name. name.items) r.0.now ≡ column_names numbers)
+        × (r.1 ≡ option_map (trace_in (of_nat F.ring)) numbers) × AreWhole numbers)
+        (λ e. (e ≡ JudgeFault.Memory)
+        ⊎ ((¬ AreWhole numbers) × (e ≡ JudgeFault.Rows air true))) }
 {
     match table {
         None => Ok((&[], None)),

@@ -1,14 +1,18 @@
 //! The commands about a batch, each from the bytes of its files to its answer.
-ghost use Rattle.std.specs.Prelude.{◌≡◌, IfOk, Ok, map, true};
+ghost use Rattle.std.specs.Prelude.{◌≡◌, ◌⊎◌, Err, MatchResult, Ok, map, true};
 ghost use Rattle.lookup_files.specs.Files.{named_of};
 ghost use Rattle.lookup_files.specs.Shapes.{all_shapes, shape_of};
 ghost use Rattle.lookup_files.specs.Tables.{all_tables, tables_of};
 ghost use Rattle.lookup_judge.specs.Bits.{challenges_of};
+ghost use Rattle.lookup_judge.specs.Causes.{IsBusRefusalOr, IsSayingRefusal};
+ghost use Rattle.lookup_judge.specs.RunRefusals.{IsCheckRefused, IsPlanRefused, IsShowRefused, IsTaskRefused};
 ghost use Rattle.lookup_judge.specs.Runs.{AnswersOver, IsPlanned, IsShown, IsVerdict};
 ghost use Rattle.lookup_judge.specs.Said.{SayOver, airs_of};
 ghost use Rattle.lookup_names.specs.Buses.{distinct_buses};
 ghost use Rattle.lookup_names.specs.Lookups.{said_of};
+ghost use Rattle.lookup_files.specs.declared.fault.TableRefusal.{TableRefusal};
 ghost use Rattle.lookup_text.specs.Batches.{batch_at, section_of};
+ghost use Rattle.lookup_text.specs.declared.fault.Fault.{Fault};
 
 use crate::airs::{airs_named, airs_of};
 use crate::bits::push_target;
@@ -23,7 +27,6 @@ use crate::refusal::RunRefusal;
 use crate::sections::{Told, push_airs, push_plan, push_report};
 use crate::show::{push_json, push_lookups};
 use crate::witness::{accept, any, witness};
-use field::{Field, Over};
 use field_words::{Challenge, Written};
 use lookup_files::{AirShape, AirTables, NamedFile, TableFault, read_shapes, read_tables};
 use lookup_names::{NamedAir, check_buses};
@@ -50,9 +53,12 @@ pub(crate) fn answer_over<F: TableField, EF: Challenge<F>>(
     field: FieldName,
     task: Task<'_>,
 ) -> Result<Answer, RunRefusal>
-    ensures { IfOk result (AnswersOver ⟦<EF as Written<F>>⟧.fields given.entry.text.now
-        (map named_of given.entry.files.now) F.number (challenges_of field) task.entry
-        given.entry.witness.now) }
+    ensures { let E = ⟦<EF as Written<F>>⟧.fields in
+        let text = given.entry.text.now in
+        let files = map named_of given.entry.files.now in
+        MatchResult result (AnswersOver E text files F.number (challenges_of field) task.entry
+        given.entry.witness.now)
+        (λ e. (e ≡ RunRefusal.Memory) ⊎ IsTaskRefused E text files task.entry) }
 {
     match task {
         Task::Check {
@@ -87,8 +93,11 @@ fn check<F: TableField, EF: Challenge<F>>(
     max_degree: usize,
     json: bool,
 ) -> Result<Answer, RunRefusal>
-    ensures { IfOk result (IsVerdict ⟦<EF as Written<F>>⟧.fields given.entry.text.now
-        (map named_of given.entry.files.now) F.number limit max_degree json) }
+    ensures { let E = ⟦<EF as Written<F>>⟧.fields in
+        let text = given.entry.text.now in
+        let files = map named_of given.entry.files.now in
+        MatchResult result (IsVerdict E text files F.number limit max_degree json)
+        (λ e. (e ≡ RunRefusal.Memory) ⊎ IsCheckRefused E text files max_degree) }
 {
     let batch = batch_of(alloc, given)?;
     let tables = tables_in(alloc, given, &batch, F::modulus())?;
@@ -129,8 +138,11 @@ fn plan<F: TableField, EF: Challenge<F>>(
     target: Option<u64>,
     airs_alone: bool,
 ) -> Result<Answer, RunRefusal>
-    ensures { IfOk result (IsPlanned ⟦<EF as Written<F>>⟧.fields given.entry.text.now
-        (map named_of given.entry.files.now) max_degree (challenges_of field) target) }
+    ensures { let E = ⟦<EF as Written<F>>⟧.fields in
+        let text = given.entry.text.now in
+        let files = map named_of given.entry.files.now in
+        MatchResult result (IsPlanned E text files max_degree (challenges_of field) target)
+        (λ e. (e ≡ RunRefusal.Memory) ⊎ IsPlanRefused E text files max_degree) }
 {
     let batch = batch_of(alloc, given)?;
     let shapes = shapes_in(alloc, given, &batch, F::modulus())?;
@@ -171,8 +183,11 @@ fn show<F: TableField, EF: Challenge<F>>(
     given: Given<'_>,
     json: bool,
 ) -> Result<Answer, RunRefusal>
-    ensures { IfOk result (IsShown ⟦<EF as Written<F>>⟧.fields given.entry.text.now
-        (map named_of given.entry.files.now)) }
+    ensures { let E = ⟦<EF as Written<F>>⟧.fields in
+        let text = given.entry.text.now in
+        let files = map named_of given.entry.files.now in
+        MatchResult result (IsShown E text files)
+        (λ e. (e ≡ RunRefusal.Memory) ⊎ IsShowRefused E text files json) }
 {
     let batch = batch_of(alloc, given)?;
     let shapes = shapes_in(alloc, given, &batch, F::modulus())?;
@@ -202,9 +217,11 @@ fn named_in(
     shapes: &[AirShape],
 ) -> Result<Vec<NamedAir>, JudgeFault>
     ensures { let sections = map section_of batch.now.sections.items in
-        IfOk result (λ v. (distinct_buses text.now sections ≡ Ok tt)
-        × SayOver text.now sections 1048576 (airs_of sections) (map shape_of shapes.now)
-        (map said_of v.items)) }
+        let sizes = map shape_of shapes.now in
+        MatchResult result (λ v. (distinct_buses text.now sections ≡ Ok tt)
+        × SayOver text.now sections 1048576 (airs_of sections) sizes (map said_of v.items))
+        (λ e. (e ≡ JudgeFault.Memory)
+        ⊎ IsBusRefusalOr text.now sections (IsSayingRefusal text.now sections sizes) e) }
 {
     check_buses(text, batch)?;
     airs_named(alloc, text, batch, shapes)
@@ -212,8 +229,10 @@ fn named_in(
 
 /// The batch in a text.
 pub(crate) fn batch_of(alloc: Global, given: Given<'_>) -> Result<BatchText, RunRefusal>
-    ensures { IfOk result (λ batch. batch_at given.entry.text.now
-        ≡ Ok (map section_of batch.sections.items)) }
+    ensures { MatchResult result (λ batch. batch_at given.entry.text.now
+        ≡ Ok (map section_of batch.sections.items))
+        (λ e. (e ≡ RunRefusal.Memory)
+        ⊎ ((fault : Fault) × (batch_at given.entry.text.now ≡ Err fault))) }
 {
     match read_batch(alloc, given.text) {
         Ok(batch) => Ok(batch),
@@ -231,8 +250,10 @@ pub(crate) fn tables_in(
     batch: &BatchText,
     modulus: u64,
 ) -> Result<Vec<AirTables>, RunRefusal>
-    ensures { IfOk result (λ v. all_tables given.entry.text.now (map named_of given.entry.files.now) modulus
-        (map section_of batch.now.sections.items) ≡ Ok (map tables_of v.items)) }
+    ensures { let read = all_tables given.entry.text.now (map named_of given.entry.files.now) modulus
+        (map section_of batch.now.sections.items) in
+        MatchResult result (λ v. read ≡ Ok (map tables_of v.items))
+        (λ e. (e ≡ RunRefusal.Memory) ⊎ ((refusal : TableRefusal) × (read ≡ Err refusal))) }
 {
     match read_tables(alloc, given.text, batch, given.files, modulus) {
         Ok(tables) => Ok(tables),
@@ -248,8 +269,10 @@ fn shapes_in(
     batch: &BatchText,
     modulus: u64,
 ) -> Result<Vec<AirShape>, RunRefusal>
-    ensures { IfOk result (λ v. all_shapes given.entry.text.now (map named_of given.entry.files.now)
-        modulus (map section_of batch.now.sections.items) ≡ Ok (map shape_of v.items)) }
+    ensures { let read = all_shapes given.entry.text.now (map named_of given.entry.files.now) modulus
+        (map section_of batch.now.sections.items) in
+        MatchResult result (λ v. read ≡ Ok (map shape_of v.items))
+        (λ e. (e ≡ RunRefusal.Memory) ⊎ ((refusal : TableRefusal) × (read ≡ Err refusal))) }
 {
     match read_shapes(alloc, given.text, batch, given.files, modulus) {
         Ok(shapes) => Ok(shapes),

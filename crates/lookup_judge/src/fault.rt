@@ -24,7 +24,7 @@ pub enum JudgeFault {
     Rows { air: usize, preprocessed: bool },
     /// The lookups of this AIR do not fit its tables.
     Fit { air: usize, fault: FitFault },
-    /// The lookups of this AIR do not make a set, or cannot be packed.
+    /// The lookups of this AIR cannot be packed, or the degree of one does not fit 64 bits.
     Lookups { air: usize, error: LookupError },
     /// The lookups of all AIRs do not make a plan, or their messages cannot be counted.
     Batch(BatchError),

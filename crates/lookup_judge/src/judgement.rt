@@ -1,9 +1,10 @@
 //! A batch, judged.
-ghost use Rattle.std.specs.Prelude.{◌≡◌, ◌↔◌, All, IfOk, IsTrue, List, Ok, map};
+ghost use Rattle.std.specs.Prelude.{◌≡◌, ◌⊎◌, ◌↔◌, All, IfOk, IsTrue, List, MatchResult, Ok, map};
 ghost use Rattle.batch.specs.Traces.{view_of};
 ghost use Rattle.field.specs.Ring.{of_nat};
 ghost use Rattle.lookup_debug.specs.Contributions.{Traced, traced_of};
 ghost use Rattle.lookup_files.specs.Tables.{tables_of};
+ghost use Rattle.lookup_judge.specs.Causes.{IsJudgeRefusal};
 ghost use Rattle.lookup_judge.specs.Found.{IsFound, sized_of};
 ghost use Rattle.lookup_judge.specs.Said.{AreSaid, airs_of};
 ghost use Rattle.lookup_judge.specs.internal.Airs.{over_traced, size_of};
@@ -30,10 +31,11 @@ use std::alloc::{AllocError, Global};
 /// Its lookups are those of `lookups_of`, over the field; its traces are the tables.
 ///
 /// Refuses, in this order: a bus that is declared twice; another number of tables than of AIRs; then AIR by
-/// AIR a table without rows or with a row that is not whole, the faults of `lookups_of` and
-/// `lookups_over`, and lookups that do not fit the tables, which is so where both tables have not
-/// as many rows; then what `BatchPlan::new`, `BatchPlan::soundness_count` and
-/// `BatchPlan::soundness_of_heights` refuse. Also fails when out of memory.
+/// AIR a table without columns or rows or with a row that is not whole, the preprocessed one first, the
+/// faults of `lookups_of` and `lookups_over`, and lookups that do not fit the tables, as where an AIR's
+/// two tables have different numbers of rows; then what `BatchPlan::new`,
+/// `BatchPlan::soundness_count` and `BatchPlan::soundness_of_heights` refuse; and last, AIR by AIR, lookups
+/// that cannot be packed or whose degree does not fit 64 bits. Also fails when out of memory.
 pub fn judge<F: SignedField, EF: ExtensionField<F>>(
     alloc: Global,
     text: &[u8],
@@ -44,10 +46,13 @@ pub fn judge<F: SignedField, EF: ExtensionField<F>>(
 ) -> Result<Report<F>, JudgeFault>
     ensures { let E = ⟦<EF as Over<F>>⟧.fields in
         let sections = map section_of batch.now.sections.items in
-        IfOk result (λ report. (distinct_buses text.now sections ≡ Ok tt)
-        × (traced : List (Traced (F))) × AreSaid (of_nat F.ring) text.now sections 1048576 (airs_of sections)
-        (map tables_of tables.now) traced
-        × IsFound E F.CHARACTERISTIC limit max_degree F.number traced report) }
+        let given = map tables_of tables.now in
+        MatchResult result (λ report. (distinct_buses text.now sections ≡ Ok tt)
+        × (traced : List (Traced (F)))
+        × AreSaid (of_nat F.ring) text.now sections 1048576 (airs_of sections) given traced
+        × IsFound E F.CHARACTERISTIC limit max_degree F.number traced report)
+        (λ e. (e ≡ JudgeFault.Memory)
+        ⊎ IsJudgeRefusal E F.CHARACTERISTIC text.now sections max_degree given e) }
 {
     let PlannedAirs { airs, plan } = planned_airs(alloc, text, batch, tables)?;
     let traces = traces_of(alloc, &airs)?;

@@ -1,10 +1,12 @@
 //! A batch over its tables, with its plan and a pair of challenges.
-ghost use Rattle.std.specs.Prelude.{◌≡◌, IfOk, MatchOption, Ok, map};
+ghost use Rattle.std.specs.Prelude.{◌≡◌, ◌⊎◌, IfErr, IfOk, MatchOption, MatchResult, Ok, map};
 ghost use Rattle.batch.specs.Runs.{plan_of};
 ghost use Rattle.field.specs.Ring.{of_nat};
 ghost use Rattle.lookup_files.specs.Files.{named_of};
 ghost use Rattle.lookup_files.specs.Tables.{tables_of};
+ghost use Rattle.lookup_judge.specs.Causes.{HasNoPlan};
 ghost use Rattle.lookup_judge.specs.Found.{IsPlanOf, sized_of};
+ghost use Rattle.lookup_judge.specs.RunRefusals.{IsOpeningRefused};
 ghost use Rattle.lookup_judge.specs.Said.{AreSaid, airs_of};
 ghost use Rattle.lookup_judge.specs.internal.Airs.{AreFittingAirs, over_traced};
 ghost use Rattle.lookup_judge.specs.internal.Opened.{IsOpened};
@@ -56,8 +58,11 @@ pub(crate) fn planned_airs<F: Field>(
         × AreSaid (of_nat F.ring) text.now sections 1048576 (airs_of sections)
         (map tables_of tables.now) (map over_traced p.airs.items)) }
     ensures fit { IfOk result (λ p. AreFittingAirs p.airs.items) }
-    ensures planned { IfOk result (λ p. IsPlanOf (map (λ a. sized_of (over_traced a)) p.airs.items)
-        (plan_of p.plan)) }
+    ensures planned { IfOk result (λ p. IsPlanOf F.CHARACTERISTIC
+        (map (λ a. sized_of (over_traced a)) p.airs.items) (plan_of p.plan)) }
+    ensures refused { IfErr result (λ e. (e ≡ JudgeFault.Memory)
+        ⊎ HasNoPlan F.CHARACTERISTIC (of_nat F.ring) text.now
+        (map section_of batch.now.sections.items) (map tables_of tables.now) e) }
 {
     check_buses(text, batch)?;
     let airs = airs_over(alloc, text, batch, tables)?;
@@ -72,9 +77,12 @@ pub(crate) fn opened<F: TableField, EF: Challenge<F>>(
     field: FieldName,
     words: ChallengeWords<'_>,
 ) -> Result<OpenedBatch<F, EF>, RunRefusal>
-    ensures { IfOk result (λ o. IsOpened ⟦<EF as Written<F>>⟧.fields given.entry.text.now
-        (map named_of given.entry.files.now) words.entry o.airs.items (plan_of o.plan) o.alpha
-        o.beta) }
+    ensures { let E = ⟦<EF as Written<F>>⟧.fields in
+        let text = given.entry.text.now in
+        let files = map named_of given.entry.files.now in
+        MatchResult result (λ o. IsOpened E text files words.entry o.airs.items (plan_of o.plan)
+        o.alpha o.beta)
+        (λ e. (e ≡ RunRefusal.Memory) ⊎ IsOpeningRefused E text files words.entry) }
 {
     let alpha = challenge_of::<F, EF>(alloc, field, "alpha", words.alpha)?;
     let beta = challenge_of::<F, EF>(alloc, field, "beta", words.beta)?;
@@ -99,7 +107,8 @@ fn challenge_of<F: Field, EF: Challenge<F>>(
     option: &str,
     word: &str,
 ) -> Result<EF, RunRefusal>
-    ensures { IfOk result (λ x. EF.written word.now x) }
+    ensures { MatchResult result (EF.written word.now)
+        (λ e. (e ≡ RunRefusal.Memory) ⊎ ((x : EF) → ¬ EF.written word.now x)) }
 {
     match EF::from_word(word.as_bytes()) {
         Some(challenge) => Ok(challenge),

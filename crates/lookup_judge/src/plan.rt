@@ -1,11 +1,12 @@
 //! A batch, judged before any trace is seen.
-ghost use Rattle.std.specs.Prelude.{◌≡◌, IfOk, List, Ok, length, map};
+ghost use Rattle.std.specs.Prelude.{◌≡◌, ◌⊎◌, IfOk, List, MatchResult, Ok, length, map};
 ghost use Rattle.std.specs.List.{AllZip};
 ghost use Rattle.batch.specs.Plans.{Plan};
 ghost use Rattle.batch.specs.Runs.{plan_of};
 ghost use Rattle.field.specs.Ring.{of_nat};
 ghost use Rattle.lookup.specs.Lookups.{lookups_of};
 ghost use Rattle.lookup_files.specs.Shapes.{shape_of};
+ghost use Rattle.lookup_judge.specs.Causes.{IsFirstElementRefusal, IsPlanJudgeRefusal, IsPlanningRefusal, IsReportRefusal};
 ghost use Rattle.lookup_judge.specs.Found.{IsPlanFound, IsPlanOf, sized_over};
 ghost use Rattle.lookup_judge.specs.Said.{AreLookupsOf, SayOver, airs_of};
 ghost use Rattle.lookup_judge.specs.internal.Airs.{size_of};
@@ -31,7 +32,8 @@ use std::alloc::{AllocError, Global};
 ///
 /// Refuses, in this order: a bus that is declared twice; another number of shapes than of AIRs; then AIR by
 /// AIR the faults of `lookups_of`; AIR by AIR those of `lookups_over`; then what `BatchPlan::new`
-/// and `BatchPlan::soundness_of_heights` refuse. Also fails when out of memory.
+/// and `BatchPlan::soundness_of_heights` refuse; and last, AIR by AIR, lookups that cannot be packed or
+/// whose degree does not fit 64 bits. Also fails when out of memory.
 pub fn judge_plan<F: Field, EF: ExtensionField<F>>(
     alloc: Global,
     text: &[u8],
@@ -42,12 +44,14 @@ pub fn judge_plan<F: Field, EF: ExtensionField<F>>(
     ensures { let E = ⟦<EF as Over<F>>⟧.fields in
         let sections = map section_of batch.now.sections.items in
         let sizes = map shape_of shapes.now in
-        IfOk result (λ report. (distinct_buses text.now sections ≡ Ok tt)
+        MatchResult result (λ report. (distinct_buses text.now sections ≡ Ok tt)
         × (said : List Said) × (lookups : List (List (Lookup (F))))
         × (plan : Plan (F))
         × SayOver text.now sections 1048576 (airs_of sections) sizes said
         × AllZip (AreLookupsOf (of_nat F.ring) text.now) said lookups
-        × IsPlanFound E F.CHARACTERISTIC max_degree (sized_over lookups sizes) plan report) }
+        × IsPlanFound E F.CHARACTERISTIC max_degree (sized_over lookups sizes) plan report)
+        (λ e. (e ≡ JudgeFault.Memory)
+        ⊎ IsPlanJudgeRefusal E F.CHARACTERISTIC text.now sections max_degree sizes e) }
 {
     check_buses(text, batch)?;
     let named = airs_named(alloc, text, batch, shapes)?;
@@ -63,8 +67,10 @@ pub(crate) fn sets_over<F: Field>(
     text: &[u8],
     named: &[NamedAir],
 ) -> Result<Vec<Lookups<F>>, JudgeFault>
-    ensures { IfOk result (λ v. AllZip (λ air set. AreLookupsOf (of_nat F.ring) text.now
-        (said_of air) (lookups_of set)) named.now v.items) }
+    ensures { MatchResult result (λ v. AllZip (λ air set. AreLookupsOf (of_nat F.ring) text.now
+        (said_of air) (lookups_of set)) named.now v.items)
+        (λ e. (e ≡ JudgeFault.Memory)
+        ⊎ IsFirstElementRefusal (of_nat F.ring) text.now (map said_of named.now) e) }
 {
     let mut sets = Vec::new(alloc);
     for index in 0..named.len() {
@@ -99,7 +105,9 @@ pub(crate) fn plan_over<F: Field>(
     alloc: Global,
     airs: &[SizedAir<'_, F>],
 ) -> Result<BatchPlan<F>, JudgeFault>
-    ensures { IfOk result (λ plan. IsPlanOf (map size_of airs.now) (plan_of plan)) }
+    ensures { MatchResult result (λ plan. IsPlanOf F.CHARACTERISTIC (map size_of airs.now) (plan_of plan))
+        (λ e. (e ≡ JudgeFault.Memory)
+        ⊎ IsPlanningRefusal F.CHARACTERISTIC (map size_of airs.now) e) }
 {
     let mut lookups = Vec::new(alloc);
     let mut heights = Vec::new(alloc);
@@ -117,9 +125,11 @@ pub(crate) fn report_plan<F: Field, EF: ExtensionField<F>>(
     plan: &BatchPlan<F>,
     max_degree: usize,
 ) -> Result<PlanReport, JudgeFault>
-    requires { IsPlanOf (map size_of airs.now) (plan_of plan.now) }
-    ensures { IfOk result (IsPlanFound ⟦<EF as Over<F>>⟧.fields F.CHARACTERISTIC max_degree
-        (map size_of airs.now) (plan_of plan.now)) }
+    requires { IsPlanOf F.CHARACTERISTIC (map size_of airs.now) (plan_of plan.now) }
+    ensures { let E = ⟦<EF as Over<F>>⟧.fields in
+        let sizes = map size_of airs.now in
+        MatchResult result (IsPlanFound E F.CHARACTERISTIC max_degree sizes (plan_of plan.now))
+        (λ e. (e ≡ JudgeFault.Memory) ⊎ IsReportRefusal F.ring F.eq max_degree sizes (plan_of plan.now) e) }
 {
     let heights = plan.soundness_of_heights::<EF>()?;
     Ok(PlanReport {

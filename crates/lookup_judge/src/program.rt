@@ -1,10 +1,11 @@
 //! A run of the program, from its words and files to its status.
-ghost use Rattle.std.specs.Prelude.{◌≡◌, ◌⊎◌, ◌↔◌, ◌-◌, ◌*◌, IfOk, IsTrue, OnOk, Result, cond, map, true};
+ghost use Rattle.std.specs.Prelude.{◌≡◌, ◌⊎◌, ◌↔◌, ◌-◌, ◌*◌, IsTrue, MatchResult, OnOk, Result, cond, map, true};
 ghost use Rattle.std.specs.Io.KnownBytes.{Appends};
 ghost use Rattle.std.specs.Process.{exit_status};
 ghost use Rattle.std.specs.String.{string_bytes};
 ghost use Rattle.lookup_files.specs.Files.{named_of};
 ghost use Rattle.lookup_judge.specs.Bits.{MeetsTarget, alphas_of, challenges_of};
+ghost use Rattle.lookup_judge.specs.RunRefusals.{IsAskedRefused, IsRefusedIn, IsRunRefusal};
 ghost use Rattle.lookup_judge.specs.Runs.{AnswersIn, AnswersTo, Ends, IsAnswer};
 
 use crate::bits::{Deceiving, push_bits_table, push_target};
@@ -72,9 +73,12 @@ pub fn run<W: Write, E: Write>(
         let B = ⟦<BabyBear4 as Written<BabyBear>>⟧.fields in
         let K = ⟦<KoalaBear4 as Written<KoalaBear>>⟧.fields in
         let G = ⟦<Goldilocks2 as Written<Goldilocks>>⟧.fields in
+        let said = map string_bytes words.now in
+        let text = inputs.entry.text.now in
+        let files = map named_of inputs.entry.files.now in
         (answer : Result Answer RunRefusal)
-        × IfOk answer (IsAnswer S B K G (map string_bytes words.now) inputs.entry.text.now
-        (map named_of inputs.entry.files.now) inputs.entry.witness.now)
+        × MatchResult answer (IsAnswer S B K G said text files inputs.entry.witness.now)
+        (IsRunRefusal S B K G said text files)
         × Ends W.contents answer (exit_status result) output.old output.new errors.old errors.new }
 {
     match answer_of(alloc, words, inputs) {
@@ -124,8 +128,11 @@ fn answer_of(alloc: Global, words: &[String], inputs: Inputs<'_>) -> Result<Answ
         let B = ⟦<BabyBear4 as Written<BabyBear>>⟧.fields in
         let K = ⟦<KoalaBear4 as Written<KoalaBear>>⟧.fields in
         let G = ⟦<Goldilocks2 as Written<Goldilocks>>⟧.fields in
-        IfOk result (IsAnswer S B K G (map string_bytes words.now) inputs.entry.text.now
-        (map named_of inputs.entry.files.now) inputs.entry.witness.now) }
+        let said = map string_bytes words.now in
+        let text = inputs.entry.text.now in
+        let files = map named_of inputs.entry.files.now in
+        MatchResult result (IsAnswer S B K G said text files inputs.entry.witness.now)
+        (IsRunRefusal S B K G said text files) }
 {
     match asked(alloc, words) {
         Ok(asked) => answer_to(alloc, asked, inputs),
@@ -144,8 +151,10 @@ fn answer_to(alloc: Global, asked: Asked<'_>, inputs: Inputs<'_>) -> Result<Answ
         let B = ⟦<BabyBear4 as Written<BabyBear>>⟧.fields in
         let K = ⟦<KoalaBear4 as Written<KoalaBear>>⟧.fields in
         let G = ⟦<Goldilocks2 as Written<Goldilocks>>⟧.fields in
-        IfOk result (AnswersTo S B K G asked.entry inputs.entry.text.now
-        (map named_of inputs.entry.files.now) inputs.entry.witness.now) }
+        let text = inputs.entry.text.now in
+        let files = map named_of inputs.entry.files.now in
+        MatchResult result (AnswersTo S B K G asked.entry text files inputs.entry.witness.now)
+        (λ e. (e ≡ RunRefusal.Memory) ⊎ IsAskedRefused S B K G asked.entry text files) }
 {
     match asked {
         Asked::Batch(request) => answer_in(alloc, request, inputs),
@@ -163,8 +172,12 @@ fn answer_in(
         let B = ⟦<BabyBear4 as Written<BabyBear>>⟧.fields in
         let K = ⟦<KoalaBear4 as Written<KoalaBear>>⟧.fields in
         let G = ⟦<Goldilocks2 as Written<Goldilocks>>⟧.fields in
-        IfOk result (AnswersIn S B K G request.entry.field request.entry.task
-        inputs.entry.text.now (map named_of inputs.entry.files.now) inputs.entry.witness.now) }
+        let field = request.entry.field in
+        let task = request.entry.task in
+        let text = inputs.entry.text.now in
+        let files = map named_of inputs.entry.files.now in
+        MatchResult result (AnswersIn S B K G field task text files inputs.entry.witness.now)
+        (λ e. (e ≡ RunRefusal.Memory) ⊎ IsRefusedIn S B K G field task text files) }
 {
     let BatchRequest {
         file,
@@ -199,10 +212,10 @@ fn answer_in(
 
 /// `bits`, by these counts alone.
 fn bits(alloc: Global, request: BitsRequest) -> Result<Answer, RunRefusal>
-    ensures { IfOk result (λ answer. IsTrue answer.yes
+    ensures { MatchResult result (λ answer. IsTrue answer.yes
         ↔ MeetsTarget (challenges_of request.field) request.target
         (request.width * (request.unbalanced - 1))
-        (alphas_of request.messages request.unbalanced)) }
+        (alphas_of request.messages request.unbalanced)) (λ e. e ≡ RunRefusal.Memory) }
 {
     let yes = Deceiving::of_request(request).meets(request.field, request.target);
     let mut page = Page::new(alloc);

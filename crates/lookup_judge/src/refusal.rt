@@ -1,5 +1,5 @@
 //! Why a run is refused, as text.
-ghost use Rattle.std.specs.Prelude.{◌≡◌};
+ghost use Rattle.std.specs.Prelude.{◌≡◌, IfOk};
 ghost use Rattle.lookup_judge.specs.declared.refusal.RunRefusal.TheVariants.{Memory};
 
 use crate::commands::Given;
@@ -172,7 +172,9 @@ impl RunRefusal {
         given: Given<'_>,
         batch: &BatchText,
         fault: JudgeFault,
-    ) -> Result<RunRefusal, AllocError> {
+    ) -> Result<RunRefusal, AllocError>
+        ensures { IfOk result (λ e. fault ≡ JudgeFault.Memory → e ≡ Memory) }
+    {
         let Given { file, text, .. } = given;
         match fault {
             JudgeFault::Memory => Ok(RunRefusal::Memory),

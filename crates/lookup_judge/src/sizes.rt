@@ -1,8 +1,10 @@
 //! The sizes of AIRs, and what is found of each.
-ghost use Rattle.std.specs.Prelude.{◌≡◌, ◌-◌, ◌^◌, IfOk, map, min};
+ghost use Rattle.std.specs.Prelude.{◌≡◌, ◌⊎◌, ◌-◌, ◌^◌, MatchResult, map, min};
 ghost use Rattle.std.specs.List.{AllZip};
 ghost use Rattle.lookup.specs.Lookups.{lookups_of};
+ghost use Rattle.lookup_judge.specs.Causes.{IsDegreeRefusal, IsFirstPackingRefusal, IsPackingRefusal};
 ghost use Rattle.lookup_judge.specs.Found.{IsAirFound, height_sum};
+ghost use Rattle.lookup_judge.specs.Refusals.{of_lookups};
 ghost use Rattle.lookup_judge.specs.internal.Airs.{size_of};
 ghost use Rattle.lookup_model.specs.LookupDegree.{lookup_degree};
 
@@ -27,18 +29,29 @@ pub(crate) fn reports_of<F: Field>(
     airs: &[SizedAir<'_, F>],
     max_degree: usize,
 ) -> Result<Vec<AirReport>, JudgeFault>
-    ensures { IfOk result (λ v. AllZip (λ air found. IsAirFound F.ring F.eq max_degree (size_of air) found)
-        airs.now v.items) }
+    ensures { MatchResult result (λ v. AllZip (λ air found. IsAirFound F.ring F.eq max_degree
+        (size_of air) found) airs.now v.items)
+        (λ e. (e ≡ JudgeFault.Memory)
+        ⊎ IsFirstPackingRefusal F.ring F.eq max_degree (map size_of airs.now) e) }
 {
     let mut reports = Vec::new(alloc);
     for index in 0..airs.len() {
         match report_of(alloc, &airs[index], max_degree) {
             Ok(report) => reports.push(report)?,
-            Err(LookupError::Memory) => return Err(JudgeFault::Memory),
-            Err(error) => return Err(JudgeFault::Lookups { air: index, error }),
+            Err(error) => return Err(refusal_of(index, error)),
         }
     }
     Ok(reports)
+}
+
+/// The refusal of an AIR; out of memory keeps its name.
+fn refusal_of(air: usize, error: LookupError) -> JudgeFault
+    ensures { result ≡ of_lookups air error }
+{
+    match error {
+        LookupError::Memory => JudgeFault::Memory,
+        other => JudgeFault::Lookups { air, error: other },
+    }
 }
 
 /// What is found of an AIR.
@@ -47,7 +60,8 @@ fn report_of<F: Field>(
     air: &SizedAir<'_, F>,
     max_degree: usize,
 ) -> Result<AirReport, LookupError>
-    ensures { IfOk result (IsAirFound F.ring F.eq max_degree (size_of air.now)) }
+    ensures { MatchResult result (IsAirFound F.ring F.eq max_degree (size_of air.now))
+        (λ e. (e ≡ LookupError.Memory) ⊎ IsPackingRefusal max_degree (size_of air.now) e) }
 {
     let copy = air.lookups.copy(alloc)?;
     let packed = copy.pack_same_bus(alloc, &LogUpGadget::new(), max_degree)?;
@@ -63,7 +77,8 @@ fn report_of<F: Field>(
 
 /// The degree of the constraint of each lookup.
 fn degrees_of<F: Field>(alloc: Global, lookups: &Lookups<F>) -> Result<Vec<usize>, LookupError>
-    ensures { IfOk result (λ v. v.items ≡ map (lookup_degree 0) (lookups_of lookups.now)) }
+    ensures { MatchResult result (λ v. v.items ≡ map (lookup_degree 0) (lookups_of lookups.now))
+        (λ e. (e ≡ LookupError.Memory) ⊎ IsDegreeRefusal (lookups_of lookups.now) e) }
 {
     let mut degrees = Vec::new(alloc);
     for lookup in lookups.as_slice() {

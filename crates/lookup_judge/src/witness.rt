@@ -1,6 +1,7 @@
 //! The commands about witnesses.
-ghost use Rattle.std.specs.Prelude.{◌≡◌, ◌↔◌, ◌∷◌, [], IfOk, IsTrue, false, map, true};
+ghost use Rattle.std.specs.Prelude.{◌≡◌, ◌⊎◌, ◌↔◌, ◌∷◌, [], IfOk, IsTrue, MatchResult, false, map, true};
 ghost use Rattle.lookup_files.specs.Files.{named_of};
+ghost use Rattle.lookup_judge.specs.RunRefusals.{IsAnyRefused, IsWitnessRefused};
 ghost use Rattle.lookup_judge.specs.Runs.{IsAcceptance, IsAcceptanceTold, IsDecision, IsWitnessed, decision_line};
 ghost use Rattle.witness_text.specs.Lines.{IsTextOf};
 
@@ -27,8 +28,11 @@ pub(crate) fn witness<F: TableField, EF: Challenge<F>>(
     field: FieldName,
     words: ChallengeWords<'_>,
 ) -> Result<Answer, RunRefusal>
-    ensures { IfOk result (IsWitnessed ⟦<EF as Written<F>>⟧.fields given.entry.text.now
-        (map named_of given.entry.files.now) words.entry) }
+    ensures { let E = ⟦<EF as Written<F>>⟧.fields in
+        let text = given.entry.text.now in
+        let files = map named_of given.entry.files.now in
+        MatchResult result (IsWitnessed E text files words.entry)
+        (λ e. (e ≡ RunRefusal.Memory) ⊎ IsWitnessRefused E text files words.entry) }
 {
     let opened = opened::<F, EF>(alloc, given, field, words)?;
     let traces = traces_of(alloc, &opened.airs)?;
@@ -134,8 +138,11 @@ pub(crate) fn any<F: TableField, EF: Challenge<F>>(
     field: FieldName,
     words: ChallengeWords<'_>,
 ) -> Result<Answer, RunRefusal>
-    ensures { IfOk result (IsDecision ⟦<EF as Written<F>>⟧.fields given.entry.text.now
-        (map named_of given.entry.files.now) words.entry) }
+    ensures { let E = ⟦<EF as Written<F>>⟧.fields in
+        let text = given.entry.text.now in
+        let files = map named_of given.entry.files.now in
+        MatchResult result (IsDecision E text files words.entry)
+        (λ e. (e ≡ RunRefusal.Memory) ⊎ IsAnyRefused E text files words.entry) }
 {
     let opened = opened::<F, EF>(alloc, given, field, words)?;
     let traces = traces_of(alloc, &opened.airs)?;
@@ -160,8 +167,8 @@ fn only<EF: Drop>(alloc: Global, challenge: EF) -> Result<Vec<EF>, AllocError>
 
 /// The answer where some witness is accepted, or none.
 fn decided(alloc: Global, yes: bool) -> Result<Answer, RunRefusal>
-    ensures { IfOk result (λ answer. (answer.yes ≡ yes)
-        × (answer.text.items ≡ decision_line yes)) }
+    ensures { MatchResult result (λ answer. (answer.yes ≡ yes)
+        × (answer.text.items ≡ decision_line yes)) (λ e. e ≡ RunRefusal.Memory) }
 {
     let mut page = Page::new(alloc);
     page.word(if yes {

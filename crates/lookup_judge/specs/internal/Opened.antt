@@ -12,6 +12,6 @@ use Rattle.lookup_judge.specs.internal.Airs.{over_traced}
 -- the AIRs are those that the files say, the plan is one of them, and the challenges are those that the words write
 pub record IsOpened {F K : Type 0} (fields : Fields F K) (text : List ℕ) (files : List File) (words : ChallengeWords) (airs : List (AirOver F)) (plan : Plan F) (alpha beta : K) : Type 0 where
   pub batch : IsReadBatch fields text files (map over_traced airs)
-  pub planned : IsPlanOf (map (λ a. sized_of (over_traced a)) airs) plan
+  pub planned : IsPlanOf fields.characteristic (map (λ a. sized_of (over_traced a)) airs) plan
   pub alpha_is : fields.written words.alpha.now alpha
   pub beta_is : fields.written words.beta.now beta

@@ -4,7 +4,11 @@ use Rattle.lookup_names.specs.Lookups.{said_of}
 use Rattle.lookup_text.specs.Batches.{section_of}
 use Rattle.lookup_judge.specs.Said.{airs_of}
 use Rattle.lookup_judge.proofs.AirLaws.{GoOnSaying}
+use Rattle.lookup_judge.proofs.CauseLaws.{RefusesNames}
 use Rattle.lookup_judge.proofs.airs.airs_named.Given as goal
 
 abbrev pub invariant-loop-index : goal.invariant-loop-index
-invariant-loop-index l = let sections = map section_of l.batch.sections.items in GoOnSaying l.text sections 1048576 (airs_of sections) (map shape_of l.shapes) l.index l.room (map said_of l.named.items)
+invariant-loop-index l = let sections = map section_of l.batch.sections.items in record {
+  said : GoOnSaying l.text sections 1048576 (airs_of sections) (map shape_of l.shapes) l.index l.room (map said_of l.named.items);
+  refuses : RefusesNames l.text sections 1048576 (airs_of sections) (map shape_of l.shapes) l.index l.room;
+}

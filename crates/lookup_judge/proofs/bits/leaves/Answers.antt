@@ -1,4 +1,4 @@
-use Rattle.std.proofs.Common.{◌≡◌, ◌*◌, ◌^◌, ◌≤◌, IsNone, IsTrue, arith, ap, eqb-true, inl, inr, refl, sym, subst, nat_eq}
+use Rattle.std.proofs.Common.{IsNone, arith, ap, eqb-true, inl, inr, refl, sym, subst, nat_eq}
 use Rattle.std.proofs.lemmas.Bool.{leb-true, le-leb}
 use Rattle.lookup_judge.proofs.BitLaws.{enough, none_left}
 use Rattle.lookup_judge.proofs.bits.leaves.Goals as goal

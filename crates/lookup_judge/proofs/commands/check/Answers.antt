@@ -1,4 +1,4 @@
-use Rattle.std.proofs.Common.{◌≡◌, ◌∙◌, ap, map, refl, subst, sym}
+use Rattle.std.proofs.Common.{◌∙◌, ap, map, refl, subst, sym}
 use Rattle.field.specs.Ring.{of_nat}
 use Rattle.lookup_files.specs.Files.{named_of}
 use Rattle.lookup_files.specs.Tables.{all_tables, tables_of}

@@ -1,4 +1,4 @@
-use Rattle.std.proofs.Common.{◌≡◌, ◌∙◌, ◌↔◌, IsTrue, ap, map, subst, sym}
+use Rattle.std.proofs.Common.{◌∙◌, ◌↔◌, IsTrue, ap, map, subst, sym}
 use Rattle.lookup_files.specs.Files.{named_of}
 use Rattle.lookup_files.specs.Shapes.{all_shapes, shape_of}
 use Rattle.lookup_text.specs.Batches.{section_of}

@@ -1,10 +1,12 @@
-use Rattle.std.proofs.Common.{◌≡◌, ◌∙◌, ap, map, subst, sym}
+use Rattle.std.proofs.Common.{◌∙◌, ap, inl, inr, map, refl, subst, sym}
+use Rattle.std.proofs.lemmas.Result.{err_from_is_err_and}
 use Rattle.std.proofs.lemmas.Simd.{map-map}
 use Rattle.batch.specs.Runs.{plan_of}
 use Rattle.batch.specs.Traces.{view_of}
 use Rattle.lookup_debug.specs.BusTable.{row_of}
 use Rattle.lookup_debug.specs.Contributions.{Traced, traced_of}
 use Rattle.lookup_debug.specs.Signs.{is_negative}
+use Rattle.lookup_judge.specs.Causes.{IsReportRefusal}
 use Rattle.lookup_judge.specs.Found.{IsPlanOf, sized_of}
 use Rattle.lookup_judge.specs.internal.Airs.{over_traced, size_of}
 use Rattle.lookup_judge.proofs.FittingLaws.{fitting_instances}
@@ -20,7 +22,7 @@ bus_table-requires-clause-heights g c = λ k d lt. (fitting_instances c.deref-3.
 pub report_plan-requires : goal.report_plan-requires
 report_plan-requires g c =
     let sizes = ap (map size_of) c.deref-7.ensures.value ∙ (c.in_ok-sizes.ensures ∙ ap (map (λ a. sized_of (over_traced a))) c.deref-6.ensures.value) in
-    subst (λ s. IsPlanOf s (plan_of c.in_ok-airs.field-0.plan)) (sym sizes) c.in_ok-airs.ensures.planned
+    subst (λ s. IsPlanOf g.F.PrimeCharacteristicRing.CHARACTERISTIC s (plan_of c.in_ok-airs.field-0.plan)) (sym sizes) c.in_ok-airs.ensures.planned
 
 pub returns : goal.returns
 returns g c =
@@ -49,3 +51,34 @@ returns g c =
         balanced = found.1;
       },
     )
+
+pub returns-in_err-airs : goal.returns-in_err-airs
+returns-in_err-airs g c =
+    let p = err_from_is_err_and c.from_residual.result c.from_residual.ensures.1 in
+    rw (p.1, p.2) (elim c.in_err-airs.ensures.refused [
+      | inl memory ↦ inl memory
+      | inr (inl bus) ↦ inr (inl bus)
+      | inr (inr later) ↦ inr (inr (later.0, inl later.1))
+    ])
+
+pub returns-in_err-counts : goal.returns-in_err-counts
+returns-in_err-counts g c =
+    let airs = c.in_ok-airs.field-0.airs.items in
+    let plan = plan_of c.in_ok-airs.field-0.plan in
+    let planned = subst (λ s. IsPlanOf g.F.PrimeCharacteristicRing.CHARACTERISTIC s plan) (sym (map-map sized_of over_traced airs)) c.in_ok-airs.ensures.planned in
+    let traces = ap (map view_of) c.deref-2.ensures.value ∙ (c.in_ok-traces.ensures ∙ (ap (map (λ a. (over_traced a).traces)) c.deref.ensures.value ∙ sym (map-map (λ (t : Traced _). t.traces) over_traced airs))) in
+    let p = err_from_is_err_and c.from_residual-in_err-counts.result c.from_residual-in_err-counts.ensures.1 in
+    rw (p.1, p.2) (inr (inr (c.in_ok-airs.ensures.said.0, inr (map over_traced airs, plan, c.in_ok-airs.ensures.said.1, planned, (c.deref-2.result.now, traces, inl (c.in_err-counts.field-0.0, c.in_err-counts.ensures.answer, refl))))))
+
+pub returns-in_err-plan : goal.returns-in_err-plan
+returns-in_err-plan g c =
+    let airs = c.in_ok-airs.field-0.airs.items in
+    let plan = plan_of c.in_ok-airs.field-0.plan in
+    let planned = subst (λ s. IsPlanOf g.F.PrimeCharacteristicRing.CHARACTERISTIC s plan) (sym (map-map sized_of over_traced airs)) c.in_ok-airs.ensures.planned in
+    let traces = ap (map view_of) c.deref-2.ensures.value ∙ (c.in_ok-traces.ensures ∙ (ap (map (λ a. (over_traced a).traces)) c.deref.ensures.value ∙ sym (map-map (λ (t : Traced _). t.traces) over_traced airs))) in
+    let sizes = ap (map size_of) c.deref-7.ensures.value ∙ (c.in_ok-sizes.ensures ∙ (ap (map (λ a. sized_of (over_traced a))) c.deref-6.ensures.value ∙ sym (map-map sized_of over_traced airs))) in
+    let p = err_from_is_err_and c.from_residual-in_err-plan.result c.from_residual-in_err-plan.ensures.1 in
+    rw (p.1, p.2) (elim c.in_err-plan.ensures [
+      | inl memory ↦ inl memory
+      | inr refusal ↦ inr (inr (c.in_ok-airs.ensures.said.0, inr (map over_traced airs, plan, c.in_ok-airs.ensures.said.1, planned, (c.deref-2.result.now, traces, inr (c.in_ok-counts.counts, c.in_ok-counts.ensures.answer, subst (λ s. IsReportRefusal g.F.PrimeCharacteristicRing.ring g.F.PartialEq.eq c.args.max_degree s plan c.in_err-plan.field-0.0) sizes refusal)))))
+    ])

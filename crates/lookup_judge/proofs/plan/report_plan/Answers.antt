@@ -1,3 +1,5 @@
+use Rattle.std.proofs.Common.{inl, inr, refl}
+use Rattle.std.proofs.lemmas.Result.{err_from_is_err_and}
 use Rattle.lookup_judge.specs.Found.{IsAirFound}
 use Rattle.lookup_judge.specs.internal.Airs.{size_of}
 use Rattle.lookup_judge.proofs.SizeLaws.{images_zip}
@@ -7,7 +9,6 @@ pub returns : goal.returns
 returns g c = record {
   airs = images_zip (IsAirFound g.F.PrimeCharacteristicRing.ring g.F.PartialEq.eq c.args.max_degree) size_of c.args.airs.now c.in_ok-reports_of.field-0.items c.in_ok-reports_of.ensures;
   plan_is = c.requires;
-  lawful = c.args.plan.now.facts;
   ids = c.num_ids.ensures;
   widest = c.max_message_width.ensures;
   heights = c.in_ok-heights.ensures.answer;
@@ -15,3 +16,16 @@ returns g c = record {
   height_sum_is = c.height_sum.ensures;
   characteristic = c.CHARACTERISTIC.ensures;
 }
+
+pub returns-in_err-reports_of : goal.returns-in_err-reports_of
+returns-in_err-reports_of g c =
+    let p = err_from_is_err_and c.from_residual-in_err-reports_of.result c.from_residual-in_err-reports_of.ensures.1 in
+    rw (p.1, p.2) (elim c.in_err-reports_of.ensures [
+      | inl memory ↦ inl memory
+      | inr refusal ↦ inr (inr (c.in_ok-heights.heights, c.in_ok-heights.ensures.answer, refusal))
+    ])
+
+pub returns-in_err-heights : goal.returns-in_err-heights
+returns-in_err-heights g c =
+    let p = err_from_is_err_and c.from_residual.result c.from_residual.ensures.1 in
+    rw (p.1, p.2) (inr (inl (c.in_err-heights.field-0.0, c.in_err-heights.ensures.answer, refl)))

@@ -1,0 +1,16 @@
+-- From the refusal of a step to that of a run.
+use Rattle.std.proofs.Common.{◌≡◌, ◌⊎◌, inl, inr, ℕ, List, Result, Ok}
+use Rattle.lookup_files.specs.declared.fault.TableRefusal.{TableRefusal}
+use Rattle.lookup_text.specs.Batches.{Section, batch_at}
+use Rattle.lookup_judge.specs.RunRefusals.{IsReadingRefused}
+use Rattle.lookup_judge.specs.declared.fault.JudgeFault.{JudgeFault}
+use Rattle.lookup_judge.specs.declared.fault.JudgeFault.TheVariants as fault
+use Rattle.lookup_judge.specs.declared.refusal.RunRefusal.{RunRefusal}
+use Rattle.lookup_judge.specs.declared.refusal.RunRefusal.TheVariants.{Memory}
+
+module _ {X : Type 0} (text : List ℕ) (reading : List Section → Result X TableRefusal) (Later : List Section → X → JudgeFault → Type 0) where
+  -- what was read is refused, or memory ran out
+  pub read_refused : (sections : List Section) (x : X) (e : JudgeFault) (r : RunRefusal) → batch_at text ≡ Ok sections → reading sections ≡ Ok x
+      → (e ≡ fault.Memory → r ≡ Memory) → (e ≡ fault.Memory) ⊎ Later sections x e → (r ≡ Memory) ⊎ IsReadingRefused text reading Later
+  read_refused sections x e r read there kept (inl memory) = inl (kept memory)
+  read_refused sections x e r read there kept (inr is) = inr (inr (sections, read, inr (x, there, e, is)))
