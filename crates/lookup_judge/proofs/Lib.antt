@@ -1,9 +1,14 @@
 pub mod AirLaws
 pub mod BitLaws
 pub mod CauseLaws
+pub mod CutLaws
 pub mod FittingLaws
 pub mod JudgeLaws
 pub mod OpenedLaws
+pub mod OrderLaws
+pub mod PackingLaws
 pub mod RunRefusalLaws
+pub mod SharedLaws
 pub mod SizeLaws
+pub mod TupleLaws
 pub mod VerdictLaws

@@ -28,6 +28,7 @@ use Rattle.batch.specs.PlanFacts.{IsPlan}
 use Rattle.batch.specs.Plans.{FitPlan, Plan, plan_batch}
 use Rattle.batch.specs.Traces.{view_of}
 use Rattle.batch.specs.declared.trace.BatchTrace.{BatchTrace}
+use Rattle.lookup_judge.specs.Sharing.{shared_by}
 use Rattle.lookup_judge.specs.declared.report.AirReport.{AirReport}
 use Rattle.lookup_judge.specs.declared.report.PlanReport.{PlanReport}
 use Rattle.lookup_judge.specs.declared.report.Report.{Report}
@@ -63,8 +64,9 @@ module _ {F : Type 0} where
   abbrev pub IsPlanOf : ℕ → List (Sized F) → Plan F → Type 0
   IsPlanOf p airs plan = (copies : List (Lookups F)) × AreCopies airs copies × IsPlanFor copies (map (λ a. a.rows) airs) plan × IsPlan p plan
 
--- What is found of an AIR: its sizes and the degree of each lookup; and the degrees of the columns that packing
--- copies of its lookups within a degree leaves, which are the fewest and send what those do.
+-- What is found of an AIR: its sizes and the degree of each lookup; and of each column that is left once copies of its
+-- lookups are packed within a degree, its degree and which lookups share it. These columns are the fewest, and send
+-- what the lookups do.
 pub record IsAirFound {F : Type 0} (R : Ring F) (eq : F → F → Bool) (max_degree : ℕ) (a : Sized F) (found : AirReport) : Type 0 where
   pub rows : found.rows ≡ a.rows
   pub columns : found.columns ≡ a.columns
@@ -77,6 +79,7 @@ pub record IsAirFound {F : Type 0} (R : Ring F) (eq : F → F → Bool) (max_deg
   pub kept : KeepsSent R eq copies packed
   pub fewest : HasFewestColumns max_degree (map fields_of copies) (map fields_of packed)
   pub packed_degrees : found.packed.items ≡ map (lookup_degree 0) packed
+  pub shared : map (λ members. members.items) found.packed_lookups.items ≡ shared_by (map fields_of copies) packing.cuts
 
 module _ {F K : Type 0} (E : Extension F K) (p : ℕ) where
   -- What is found before any trace is seen: the AIRs, and the numbers of their plan.

@@ -5,4 +5,5 @@ pub mod Refusals
 pub mod RunRefusals
 pub mod Runs
 pub mod Said
+pub mod Sharing
 pub mod internal

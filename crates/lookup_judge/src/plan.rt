@@ -10,6 +10,7 @@ ghost use Rattle.lookup_judge.specs.Causes.{IsFirstElementRefusal, IsPlanJudgeRe
 ghost use Rattle.lookup_judge.specs.Found.{IsPlanFound, IsPlanOf, sized_over};
 ghost use Rattle.lookup_judge.specs.Said.{AreLookupsOf, SayOver, airs_of};
 ghost use Rattle.lookup_judge.specs.internal.Airs.{size_of};
+ghost use Rattle.lookup_judge.specs.internal.Sharing.{AllHaveTuples};
 ghost use Rattle.lookup_model.specs.declared.types.Lookup.{Lookup};
 ghost use Rattle.lookup_names.specs.Buses.{distinct_buses};
 ghost use Rattle.lookup_names.specs.Lookups.{Said, said_of};
@@ -125,7 +126,8 @@ pub(crate) fn report_plan<F: Field, EF: ExtensionField<F>>(
     plan: &BatchPlan<F>,
     max_degree: usize,
 ) -> Result<PlanReport, JudgeFault>
-    requires { IsPlanOf F.CHARACTERISTIC (map size_of airs.now) (plan_of plan.now) }
+    requires planned { IsPlanOf F.CHARACTERISTIC (map size_of airs.now) (plan_of plan.now) }
+    requires tuples { AllHaveTuples (map size_of airs.now) }
     ensures { let E = ⟦<EF as Over<F>>⟧.fields in
         let sizes = map size_of airs.now in
         MatchResult result (IsPlanFound E F.CHARACTERISTIC max_degree sizes (plan_of plan.now))

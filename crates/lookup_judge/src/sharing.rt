@@ -1,27 +1,71 @@
 //! Which lookups share a packed column.
+ghost use Rattle.std.specs.Prelude.{◌≡◌, IfOk, map};
+ghost use Rattle.lookup_judge.specs.internal.Sharing.{AreNumbersOfParts, in_packing_order, tuples_of};
+ghost use Rattle.lookup_model.specs.Outline.{fields_of};
+
 use field::Field;
 use indexmap::IndexMap;
 use lookup::packing::may_be_joined;
 use lookup::{Kind, Lookup};
 use std::alloc::{AllocError, Global};
-use std::hash::Hash;
 
-/// For each column of packed lookups the numbers of the lookups in it, from 0.
-///
-/// Packing joins neighbours in `packing_order`, and each lookup has a tuple. So a column has the next
-/// lookups that have together as many tuples as it has.
-pub(crate) fn sharing<F: Field>(
+/// A lookup by its number, with how many tuples it has.
+#[derive(Clone, Copy)]
+pub(crate) struct LookupTuples {
+    pub(crate) number: usize,
+    pub(crate) tuples: usize,
+}
+
+/// Lookups in the order in which packing leaves them: first those that pass through, local ones and
+/// those with flags; then bus by bus the others, the buses in the order of their first one.
+pub(crate) fn packing_order<F: Field>(
     alloc: Global,
     lookups: &[Lookup<F>],
+) -> Result<Vec<LookupTuples>, AllocError>
+    ensures { IfOk result (λ v. v.items
+        ≡ map tuples_of (in_packing_order (map fields_of lookups.now))) }
+{
+    let mut order = Vec::new(alloc);
+    let mut buses = IndexMap::new(alloc);
+    for lookup in lookups {
+        let member = LookupTuples {
+            number: lookup.column,
+            tuples: lookup.elements.len(),
+        };
+        match &lookup.kind {
+            Kind::Global(name) if may_be_joined(lookup) => {
+                let bus = buses.entry(name.as_str())?.or_insert(Vec::new(alloc));
+                bus.push(member)?;
+            }
+            _ => order.push(member)?,
+        }
+    }
+    let groups: Vec<Vec<_>> = buses.into_values().collect(alloc)?;
+    for group in &groups {
+        order.extend_from_slice(group)?;
+    }
+    Ok(order)
+}
+
+/// For each packed column the numbers of the lookups that share it, where `order` has all lookups as
+/// `packing_order` gives them.
+///
+/// Packing joins neighbours in that order. So if each lookup has at least one tuple, a column has the
+/// next lookups that have together as many tuples as it has.
+pub(crate) fn sharing<F>(
+    alloc: Global,
+    order: &[LookupTuples],
     packed: &[Lookup<F>],
-) -> Result<Vec<Vec<usize>>, AllocError> {
-    let order = packing_order(alloc, lookups)?;
+) -> Result<Vec<Vec<usize>>, AllocError>
+    ensures { IfOk result (λ v. AreNumbersOfParts order.now packed.now
+        (map (λ members. members.items) v.items)) }
+{
     let mut columns = Vec::new(alloc);
     let mut members = Vec::new(alloc);
     let mut tuples = 0usize;
-    for (index, lookup) in &order {
-        members.push(*index)?;
-        tuples = tuples.saturating_add(lookup.elements.len());
+    for member in order {
+        members.push(member.number)?;
+        tuples = tuples.saturating_add(member.tuples);
         let is_full = match packed.get(columns.len()) {
             Some(column) => tuples >= column.elements.len(),
             None => false,
@@ -33,40 +77,4 @@ pub(crate) fn sharing<F: Field>(
         }
     }
     Ok(columns)
-}
-
-/// Lookups with their numbers, in the order in which packing leaves them: first those that pass
-/// through, local ones and those with flags; then bus by bus the others, the buses in the order of
-/// their first one.
-fn packing_order<'a, F: Field>(
-    alloc: Global,
-    lookups: &'a [Lookup<F>],
-) -> Result<Vec<(usize, &'a Lookup<F>)>, AllocError> {
-    let mut order = Vec::new(alloc);
-    let mut buses = IndexMap::new(alloc);
-    for (index, lookup) in lookups.iter().enumerate() {
-        match &lookup.kind {
-            Kind::Global(name) if may_be_joined(lookup) => {
-                push_at(alloc, &mut buses, name.as_str(), (index, lookup))?;
-            }
-            _ => order.push((index, lookup))?,
-        }
-    }
-    let groups: Vec<Vec<_>> = buses.into_values().collect(alloc)?;
-    for group in &groups {
-        order.extend_from_slice(group)?;
-    }
-    Ok(order)
-}
-
-/// Appends to the group at a key. The group of a new key goes last.
-fn push_at<K: Eq + Hash + Drop, T: Drop>(
-    alloc: Global,
-    groups: &mut IndexMap<K, Vec<T>>,
-    key: K,
-    item: T,
-) -> Result<(), AllocError> {
-    let group = groups.entry(key)?.or_insert(Vec::new(alloc));
-    group.push(item)?;
-    Ok(())
 }

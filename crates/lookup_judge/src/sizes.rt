@@ -6,11 +6,13 @@ ghost use Rattle.lookup_judge.specs.Causes.{IsDegreeRefusal, IsFirstPackingRefus
 ghost use Rattle.lookup_judge.specs.Found.{IsAirFound, height_sum};
 ghost use Rattle.lookup_judge.specs.Refusals.{of_lookups};
 ghost use Rattle.lookup_judge.specs.internal.Airs.{size_of};
+ghost use Rattle.lookup_judge.specs.internal.Sharing.{AllHaveTuples, HaveTuples};
 ghost use Rattle.lookup_model.specs.LookupDegree.{lookup_degree};
+ghost use Rattle.lookup_model.specs.Outline.{outline_of};
 
 use crate::fault::JudgeFault;
 use crate::report::AirReport;
-use crate::sharing::sharing;
+use crate::sharing::{packing_order, sharing};
 use field::Field;
 use lookup::{LogUpGadget, LookupError, LookupProtocol, Lookups};
 use std::alloc::Global;
@@ -29,6 +31,7 @@ pub(crate) fn reports_of<F: Field>(
     airs: &[SizedAir<'_, F>],
     max_degree: usize,
 ) -> Result<Vec<AirReport>, JudgeFault>
+    requires { AllHaveTuples (map size_of airs.now) }
     ensures { MatchResult result (λ v. AllZip (λ air found. IsAirFound F.ring F.eq max_degree
         (size_of air) found) airs.now v.items)
         (λ e. (e ≡ JudgeFault.Memory)
@@ -60,10 +63,12 @@ fn report_of<F: Field>(
     air: &SizedAir<'_, F>,
     max_degree: usize,
 ) -> Result<AirReport, LookupError>
+    requires { HaveTuples (map outline_of (size_of air.now).lookups) }
     ensures { MatchResult result (IsAirFound F.ring F.eq max_degree (size_of air.now))
         (λ e. (e ≡ LookupError.Memory) ⊎ IsPackingRefusal max_degree (size_of air.now) e) }
 {
     let copy = air.lookups.copy(alloc)?;
+    let order = packing_order(alloc, copy.as_slice())?;
     let packed = copy.pack_same_bus(alloc, &LogUpGadget::new(), max_degree)?;
     Ok(AirReport {
         rows: air.rows,
@@ -71,7 +76,7 @@ fn report_of<F: Field>(
         weight: air.lookups.total_count_weight(),
         degrees: degrees_of(alloc, air.lookups)?,
         packed: degrees_of(alloc, &packed)?,
-        packed_lookups: sharing(alloc, air.lookups.as_slice(), packed.as_slice())?,
+        packed_lookups: sharing(alloc, &order, packed.as_slice())?,
     })
 }
 

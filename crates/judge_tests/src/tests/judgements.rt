@@ -72,15 +72,15 @@ query b(x)
 query b(y)
 }";
 
-fn plan(alloc: Global) -> Option<PlanReport> {
-    let batch = read_batch(alloc, PLANNED).ok()?;
-    let shapes = read_shapes(alloc, PLANNED, &batch, &[], MODULUS).ok()?;
-    judge_plan::<BabyBear, BabyBear4>(alloc, PLANNED, &batch, &shapes, 3).ok()
+fn plan(alloc: Global, text: &[u8]) -> Option<PlanReport> {
+    let batch = read_batch(alloc, text).ok()?;
+    let shapes = read_shapes(alloc, text, &batch, &[], MODULUS).ok()?;
+    judge_plan::<BabyBear, BabyBear4>(alloc, text, &batch, &shapes, 3).ok()
 }
 
 #[test]
 fn plans(rt: HostRuntime) {
-    let Some(report) = plan(rt.alloc()) else {
+    let Some(report) = plan(rt.alloc(), PLANNED) else {
         return holds(&rt, "the plan is judged", false);
     };
     let Some(air) = report.airs.first() else {
@@ -97,9 +97,37 @@ fn plans(rt: HostRuntime) {
         air.degrees.as_slice() == [2, 2].as_slice(),
     );
     holds(&rt, "one column", air.packed.as_slice() == [3].as_slice());
-    let Some(shared) = air.packed_lookups.first() else {
-        return holds(&rt, "its lookups", false);
-    };
-    holds(&rt, "of both", shared.as_slice() == [0, 1].as_slice());
     holds(&rt, "its messages", report.heights.most_messages == 10);
+}
+
+/// Lookups 0, 1, 3 and 4 are on one bus, of which 1 has a flag; lookup 2 is on another.
+const SHARED: &[u8] = b"air a {
+height 5
+columns (x, y)
+query b(x)
+exclusive {
+when x query b(y)
+}
+query c(x)
+query b(y)
+query b(x)
+}";
+
+// The lookup with a flag comes first, and stays alone. Of the three others on its bus two share a column,
+// since three would have degree 4.
+#[test]
+fn shares(rt: HostRuntime) {
+    let Some(report) = plan(rt.alloc(), SHARED) else {
+        return holds(&rt, "the plan is judged", false);
+    };
+    let Some(air) = report.airs.first() else {
+        return holds(&rt, "an AIR", false);
+    };
+    let [flagged, two, third, other] = air.packed_lookups.as_slice() else {
+        return holds(&rt, "four columns", false);
+    };
+    holds(&rt, "the flag", flagged.as_slice() == [1].as_slice());
+    holds(&rt, "two on a bus", two.as_slice() == [0, 3].as_slice());
+    holds(&rt, "the third", third.as_slice() == [4].as_slice());
+    holds(&rt, "the other bus", other.as_slice() == [2].as_slice());
 }

@@ -3,14 +3,20 @@ use Rattle.std.proofs.lemmas.Result.{err_from_is_err_and}
 use Rattle.std.proofs.lemmas.Simd.{map-map}
 use Rattle.batch.specs.Runs.{plan_of}
 use Rattle.batch.specs.Traces.{view_of}
+use Rattle.field.specs.Ring.{of_nat}
 use Rattle.lookup_debug.specs.BusTable.{row_of}
 use Rattle.lookup_debug.specs.Contributions.{Traced, traced_of}
 use Rattle.lookup_debug.specs.Signs.{is_negative}
+use Rattle.lookup_files.specs.Tables.{tables_of}
+use Rattle.lookup_text.specs.Batches.{section_of}
 use Rattle.lookup_judge.specs.Causes.{IsReportRefusal}
 use Rattle.lookup_judge.specs.Found.{IsPlanOf, sized_of}
+use Rattle.lookup_judge.specs.Said.{airs_of}
 use Rattle.lookup_judge.specs.internal.Airs.{over_traced, size_of}
+use Rattle.lookup_judge.specs.internal.Sharing.{AllHaveTuples}
 use Rattle.lookup_judge.proofs.FittingLaws.{fitting_instances}
 use Rattle.lookup_judge.proofs.JudgeLaws.{balanced_over, planned_over}
+use Rattle.lookup_judge.proofs.TupleLaws.{traced_there}
 use Rattle.lookup_judge.proofs.judgement.judge.Goals as goal
 
 pub bus_table-requires-clause-fit : goal.bus_table-requires-clause-fit
@@ -19,10 +25,17 @@ bus_table-requires-clause-fit g c = λ k d lt. (fitting_instances c.deref-3.resu
 pub bus_table-requires-clause-heights : goal.bus_table-requires-clause-heights
 bus_table-requires-clause-heights g c = λ k d lt. (fitting_instances c.deref-3.result.now c.in_ok-airs.field-0.airs.items c.deref-4.result.now c.in_ok-instances.instances.items c.deref-3.ensures.value c.deref-4.ensures.value c.in_ok-instances.ensures c.in_ok-airs.ensures.fit k d lt).heights
 
-pub report_plan-requires : goal.report_plan-requires
-report_plan-requires g c =
+pub report_plan-requires-clause-planned : goal.report_plan-requires-clause-planned
+report_plan-requires-clause-planned g c =
     let sizes = ap (map size_of) c.deref-7.ensures.value ∙ (c.in_ok-sizes.ensures ∙ ap (map (λ a. sized_of (over_traced a))) c.deref-6.ensures.value) in
     subst (λ s. IsPlanOf g.F.PrimeCharacteristicRing.CHARACTERISTIC s (plan_of c.in_ok-airs.field-0.plan)) (sym sizes) c.in_ok-airs.ensures.planned
+
+pub report_plan-requires-clause-tuples : goal.report_plan-requires-clause-tuples
+report_plan-requires-clause-tuples g c =
+    let airs = c.in_ok-airs.field-0.airs.items in
+    let sections = map section_of c.args.batch.now.sections.items in
+    let sizes = ap (map size_of) c.deref-7.ensures.value ∙ (c.in_ok-sizes.ensures ∙ (ap (map (λ a. sized_of (over_traced a))) c.deref-6.ensures.value ∙ sym (map-map sized_of over_traced airs))) in
+    subst AllHaveTuples (sym sizes) (traced_there (of_nat g.F.PrimeCharacteristicRing.ring) c.args.text.now sections 1048576 (airs_of sections) (map tables_of c.args.tables.now) (map over_traced airs) c.in_ok-airs.ensures.said.1)
 
 pub returns : goal.returns
 returns g c =

@@ -14,8 +14,10 @@ use Rattle.lookup_judge.specs.Causes.{IsPlanningRefusal, IsReportRefusal}
 use Rattle.lookup_judge.specs.Found.{IsPlanOf, sized_over}
 use Rattle.lookup_judge.specs.Said.{AreLookupsOf, airs_of}
 use Rattle.lookup_judge.specs.internal.Airs.{size_of}
+use Rattle.lookup_judge.specs.internal.Sharing.{AllHaveTuples}
 use Rattle.lookup_judge.proofs.AirLaws.{says_long}
 use Rattle.lookup_judge.proofs.JudgeLaws.{planned_over}
+use Rattle.lookup_judge.proofs.TupleLaws.{planned_there}
 use Rattle.lookup_judge.proofs.plan.judge_plan.Goals as goal
 
 pub sized_airs-requires : goal.sized_airs-requires
@@ -26,6 +28,18 @@ sized_airs-requires g c =
     let said = says_long c.args.text.now sections 1048576 1048576 (airs_of sections) (map shape_of shapes) (map said_of named) c.in_ok-named.ensures in
     let sets = AllZip-long _ c.deref.result.now c.in_ok-sets.sets.items c.in_ok-sets.ensures in
     omega (arith, said, sets, length-map shapes shape_of, length-map named said_of, ap length c.deref.ensures.value, ap length c.deref-2.ensures.value)
+
+pub report_plan-requires-clause-tuples : goal.report_plan-requires-clause-tuples
+report_plan-requires-clause-tuples g c =
+    let sections = map section_of c.args.batch.now.sections.items in
+    let shapes = map shape_of c.args.shapes.now in
+    let named = c.in_ok-named.named.items in
+    let sets = c.in_ok-sets.sets.items in
+    let element = of_nat g.F.PrimeCharacteristicRing.ring in
+    let sizes = ap (map size_of) c.deref-4.ensures.value ∙ (c.in_ok-airs.ensures ∙ ap (λ ss. sized_over (map lookups_of ss) shapes) c.deref-2.ensures.value) in
+    let lookups = AllZip-images (AreLookupsOf element c.args.text.now) said_of lookups_of c.deref.result.now sets c.in_ok-sets.ensures in
+    let said = subst (λ ns. AllZip (AreLookupsOf element c.args.text.now) (map said_of ns) (map lookups_of sets)) c.deref.ensures.value lookups in
+    subst AllHaveTuples (sym sizes) (planned_there element c.args.text.now sections 1048576 (airs_of sections) shapes (map said_of named) (map lookups_of sets) c.in_ok-named.ensures said)
 
 pub returns-in_err-plan : goal.returns-in_err-plan
 returns-in_err-plan g c =

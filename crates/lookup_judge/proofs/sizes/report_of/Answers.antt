@@ -1,6 +1,11 @@
-use Rattle.std.proofs.Common.{inl, inr}
+use Rattle.std.proofs.Common.{inl, inr, ◌∙◌, ℕ, Vec, Global, ap, map, refl, subst₂}
 use Rattle.std.proofs.lemmas.Result.{err_from_is_err_and}
 use Rattle.lookup.specs.Lookups.{lookups_of}
+use Rattle.lookup.specs.Fewest.{AnswersDegree}
+use Rattle.lookup_judge.specs.internal.Airs.{size_of}
+use Rattle.lookup_judge.specs.internal.Sharing.{AreNumbersOfParts, in_packing_order, tuples_of}
+use Rattle.lookup_model.specs.Outline.{fields_of}
+use Rattle.lookup_judge.proofs.SharedLaws.{shared_is}
 use Rattle.lookup_judge.proofs.sizes.report_of.Goals as goal
 
 pub returns-in_err-packed : goal.returns-in_err-packed
@@ -27,3 +32,25 @@ returns-in_err-degrees_of-2 g c =
       | inl memory ↦ inl memory
       | inr degree ↦ inr (lookups_of c.in_ok-copy.copy, c.in_ok-copy.ensures, inr (inr (lookups_of c.in_ok-packed.packed, c.in_ok-packed.ensures.packs.1, inr degree)))
     ])
+
+pub returns : goal.returns
+returns g c =
+    let copies = lookups_of c.in_ok-copy.copy in
+    let packed = lookups_of c.in_ok-packed.packed in
+    let order = c.in_ok-order.order.items in
+    let shared = map (λ (members : Vec ℕ Global). members.items) c.in_ok-sharing.field-0.items in
+    let in_order = c.in_ok-order.ensures ∙ ap (λ ls. map tuples_of (in_packing_order (map fields_of ls))) c.as_slice.ensures.lookups in
+    let told = subst₂ (λ ms ls. AreNumbersOfParts ms ls shared) c.deref.ensures.value c.as_slice-2.ensures.lookups c.in_ok-sharing.ensures in record {
+      rows = refl;
+      columns = refl;
+      weight = c.total_count_weight.ensures;
+      degrees = c.in_ok-degrees_of.ensures;
+      copies = copies;
+      copies_are = c.in_ok-copy.ensures;
+      packed = packed;
+      packing = c.in_ok-packed.ensures.packs.1;
+      kept = c.in_ok-packed.ensures.kept;
+      fewest = c.in_ok-packed.ensures.fewest;
+      packed_degrees = c.in_ok-degrees_of-2.ensures;
+      shared = shared_is AnswersDegree c.args.max_degree (size_of c.args.air.now).lookups copies packed order shared c.in_ok-packed.ensures.packs.1 c.requires c.in_ok-copy.ensures in_order told;
+    }

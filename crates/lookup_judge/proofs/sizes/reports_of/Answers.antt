@@ -1,16 +1,25 @@
 use Rattle.std.proofs.Common.{◌≡◌, ◌∙◌, ap, arith, inl, inr, map, subst, sym, take}
 use Rattle.std.proofs.lemmas.List.{length-map}
 use Rattle.std.specs.List.{AllZip, take-map}
+use Rattle.lists.proofs.Each.{all_here, all_of_map}
 use Rattle.lists.proofs.Zips.{AllZip-more}
+use Rattle.lookup_model.specs.Outline.{outline_of}
 use Rattle.lookup_model.specs.declared.error.LookupError.{LookupError}
 use Rattle.lookup_judge.specs.Causes.{IsPackingRefusal}
-use Rattle.lookup_judge.specs.Found.{IsAirFound}
+use Rattle.lookup_judge.specs.Found.{IsAirFound, Sized}
 use Rattle.lookup_judge.specs.Refusals.{of_lookups}
 use Rattle.lookup_judge.specs.internal.Airs.{size_of}
+use Rattle.lookup_judge.specs.internal.Sharing.{HaveTuples}
 use Rattle.lookup_judge.proofs.AirLaws.{image_next}
 use Rattle.lookup_judge.proofs.CauseLaws.{first_refused}
 use Rattle.lookup_judge.proofs.SizeLaws.{images_zip}
 use Rattle.lookup_judge.proofs.sizes.reports_of.Goals as goal
+
+pub report_of-requires : goal.report_of-requires
+report_of-requires g c =
+    let airs = c.args.airs.now in
+    let Taken = λ (a : Sized g.row.F.Denot). HaveTuples (map outline_of a.lookups) in
+    subst (λ a. Taken (size_of a)) (sym c.index-airs-index.is) (all_here (λ a. Taken (size_of a)) airs c.loop-index.index c.index-airs-index.result c.loop-index-test.true (all_of_map Taken size_of airs c.requires))
 
 pub loop-index-preserved : goal.loop-index-preserved
 loop-index-preserved g c =
