@@ -97,6 +97,10 @@ fn plans(rt: HostRuntime) {
         air.degrees.as_slice() == [2, 2].as_slice(),
     );
     holds(&rt, "one column", air.packed.as_slice() == [3].as_slice());
+    let Some(shared) = air.packed_lookups.first() else {
+        return holds(&rt, "its lookups", false);
+    };
+    holds(&rt, "of both", shared.as_slice() == [0, 1].as_slice());
     holds(&rt, "its messages", report.heights.most_messages == 10);
 }
 
