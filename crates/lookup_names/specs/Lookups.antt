@@ -1,7 +1,5 @@
 -- The lookups of an AIR: what its items say, over columns by their numbers.
-use Rattle.std.specs.Prelude.{◌+◌, ◌++◌, ℕ, Bool, true, false, List, [], ◌∷◌, Option, Some, None, Result, Ok, is_some, length, map, option_map, if◌then◌else◌}
-use Rattle.std.specs.declared.alloc.Global.{Global}
-use Rattle.std.specs.declared.vec.Vec.{Vec}
+use Rattle.std.specs.Prelude.{◌+◌, ℕ, Bool, true, false, List, [], ◌∷◌, Option, Some, None, Result, Ok, is_some, length, map, option_map, if◌then◌else◌}
 use Rattle.lookup_text.specs.declared.token.Span.{Span}
 use Rattle.lookup_text.specs.Batches.{Section}
 use Rattle.lookup_text.specs.Formulas.{Formula}
@@ -19,7 +17,7 @@ use Rattle.lookup_names.specs.Buses.{bus_checked, buses_of, same_bus}
 use Rattle.lookup_names.specs.Faults.{◌>>=◌, refused}
 use Rattle.lookup_names.specs.Messages.{Sent, sent, sent_of}
 use Rattle.lookup_names.specs.Room.{InRoom}
-use Rattle.lookup_names.specs.Scopes.{Names, bytes_in, defined_of, definition, meaning}
+use Rattle.lookup_names.specs.Scopes.{Names, bytes_in, defined_of, definition, meaning, with_definition}
 use Rattle.lookup_names.specs.Values.{Meant, meant_of}
 use Rattle.lookup_names.specs.Values as values
 
@@ -42,14 +40,6 @@ pub record Column : Type 0 where
 -- a lookup, without where it lies in memory
 abbrev pub column_of : NamedLookup → Column
 column_of l = record { at = l.at; bus = l.bus; exclusive = l.exclusive; parts = map part_of l.parts.items }
-
--- the names of columns before any definition
-abbrev pub names_for : List ℕ → List (Vec ℕ Global) → List (Vec ℕ Global) → Names
-names_for text columns fixed = record { text = text; columns = map (λ column. column.items) columns; preprocessed = map (λ column. column.items) fixed; defined = [] }
-
--- names with one more definition, after those before it
-abbrev pub with_definition : Names → List ℕ × Meant → Names
-with_definition names d = record { text = names.text; columns = names.columns; preprocessed = names.preprocessed; defined = names.defined ++ d ∷ [] }
 
 -- a name that has no definition yet
 abbrev pub new_name : Names → Span → Result (Unit {0}) NameRefusal

@@ -1,6 +1,8 @@
 -- What names stand for, and what formulas mean with them.
-use Rattle.std.specs.Prelude.{◌&&◌, ◌-◌, ℕ, List, [], ◌∷◌, Option, Some, None, Result, Ok, codes, drop, length, map, nat_le, position, slice_range, take, if◌then◌else◌}
+use Rattle.std.specs.Prelude.{◌&&◌, ◌++◌, ◌-◌, ℕ, List, [], ◌∷◌, Option, Some, None, Result, Ok, codes, drop, length, map, nat_le, position, slice_range, take, if◌then◌else◌}
 use Rattle.std.specs.Str.{bytes_eq}
+use Rattle.std.specs.declared.alloc.Global.{Global}
+use Rattle.std.specs.declared.vec.Vec.{Vec}
 use Rattle.lookup_text.specs.declared.token.Span.{Span}
 use Rattle.lookup_text.specs.Formulas.{Formula, name, next, number, negative, sum, difference, product, power}
 use Rattle.lookup_names.specs.declared.fault.NameRefusal.{NameRefusal}
@@ -31,6 +33,14 @@ names_of scope = record {
   preprocessed = map (λ column. column.items) scope.preprocessed.now;
   defined = map defined_of scope.defined.now;
 }
+
+-- the names of columns before any definition
+abbrev pub names_for : List ℕ → List (Vec ℕ Global) → List (Vec ℕ Global) → Names
+names_for text columns fixed = record { text = text; columns = map (λ column. column.items) columns; preprocessed = map (λ column. column.items) fixed; defined = [] }
+
+-- names with one more definition, after those before it
+abbrev pub with_definition : Names → List ℕ × Meant → Names
+with_definition names d = record { text = names.text; columns = names.columns; preprocessed = names.preprocessed; defined = names.defined ++ d ∷ [] }
 
 -- the bytes of a span, none where it is not within the text
 abbrev pub bytes_in : Span → List ℕ → List ℕ

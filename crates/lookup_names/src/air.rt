@@ -5,10 +5,10 @@ ghost use Rattle.lookup_text.specs.Formulas.{formula_of};
 ghost use Rattle.lookup_text.specs.Items.{part_of as said_part, placed_of};
 ghost use Rattle.lookup_text.specs.Messages.{message_of as said_by};
 ghost use Rattle.lookup_names.specs.Faults.{Gives};
-ghost use Rattle.lookup_names.specs.Lookups.{addition, addition_of, bus_kept, column_alone, column_of, column_together, defined_by, flag_meant, message_on, names_for, new_name, part_of, part_on, parts_on, said_by_items, said_of};
+ghost use Rattle.lookup_names.specs.Lookups.{addition, addition_of, bus_kept, column_alone, column_of, column_together, defined_by, flag_meant, message_on, new_name, part_of, part_on, parts_on, said_by_items, said_of};
 ghost use Rattle.lookup_names.specs.Messages.{sent_of};
 ghost use Rattle.lookup_names.specs.Room.{in_room};
-ghost use Rattle.lookup_names.specs.Scopes.{bytes_in, defined_of, names_of};
+ghost use Rattle.lookup_names.specs.Scopes.{bytes_in, defined_of, names_for, names_of};
 ghost use Rattle.lookup_names.specs.Values.{meant_of};
 
 use crate::bus::{check_bus, same_bus};

@@ -9,7 +9,7 @@ use Rattle.clap.specs.declared.parser.matches.ArgMatches.{ArgMatches}
 use Rattle.clap.proofs.OnLiterals.{clap_on_literals}
 use Rattle.lookup_words.specs.Line.{Names, line_app}
 use Rattle.lookup_words.specs.internal.Commands.{IsArg, IsCommand}
-use Rattle.lookup_words.specs.internal.Readings.{IsMistake, TellsKind}
+use Rattle.lookup_words.specs.internal.Refusals.{IsMistake, TellsKind}
 use Rattle.lookup_words.specs.Words.{AsksNothing, IsRefused}
 use Rattle.lookup_words.specs.declared.refusal.WordsRefusal.{WordsRefusal}
 use Rattle.lookup_words.specs.declared.refusal.WordsRefusal.TheVariants.{Memory, Help, Told}

@@ -1,7 +1,7 @@
 //! Why words ask for nothing.
 ghost use Rattle.std.specs.Prelude.{◌≡◌};
 ghost use Rattle.clap.specs.Words.{kind_of};
-ghost use Rattle.lookup_words.specs.internal.Readings.{IsMistake, TellsKind};
+ghost use Rattle.lookup_words.specs.internal.Refusals.{IsMistake, TellsKind};
 ghost use Rattle.lookup_words.specs.declared.refusal.WordsRefusal.TheVariants.{Memory};
 
 use clap::Error;

@@ -1,8 +1,8 @@
 use Rattle.std.proofs.Common.{◌≡◌, drop, length, map}
 use Rattle.lookup_text.specs.Batches.{section_of}
 use Rattle.lookup_text.specs.Items.{placed_of}
-use Rattle.lookup_names.specs.Lookups.{column_of, names_for, said_by_items}
-use Rattle.lookup_names.specs.Scopes.{defined_of}
+use Rattle.lookup_names.specs.Lookups.{column_of, said_by_items}
+use Rattle.lookup_names.specs.Scopes.{defined_of, names_for}
 use Rattle.lookup_names.proofs.LookupLaws.{names_with, with_said}
 use Rattle.lookup_names.proofs.air.lookups_of.Given as goal
 
