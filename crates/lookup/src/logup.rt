@@ -1,15 +1,12 @@
 //! The LogUp gadget (eprint 2022/1530).
 ghost use Rattle.std.specs.Prelude.{◌≡◌, ◌<◌, ◌+◌, ◌*◌, ◌≤◌, ◌⊎◌, IfErr, length};
-ghost use Rattle.std.specs.Option.{ForSome, option_copied};
-ghost use Rattle.air.specs.Traces.{air_traces};
-ghost use Rattle.expressions.specs.Layout.{layout_of_traces};
+ghost use Rattle.air.specs.Traces.{height_of, layout_of, traces_of};
 ghost use Rattle.lookup_generation.specs.Inverses.{ForExtensions};
 ghost use Rattle.lookup_generation.specs.Progress.{HaveNoTuples, started_chunks};
 ghost use Rattle.lookup_model.specs.Generation.{AnswersGeneration};
 ghost use Rattle.lookup_model.specs.LookupDegree.{IsDegree, lookup_degree};
 ghost use Rattle.lookup_model.specs.Records.{HasEqualLengths, LookupsFit};
 ghost use Rattle.lookup_model.specs.Terminals.{terminal_sum, terminal_value};
-ghost use Rattle.matrix.specs.Matrix.{height};
 
 use crate::protocol::LookupProtocol;
 use air::{AirBuilder, AirError, ExtensionBuilder, PermutationAirBuilder, Traces};
@@ -74,52 +71,41 @@ impl LogUpGadget {
     /// The auxiliary trace of one AIR and its terminal, as `generate_permutation` makes them, with an
     /// inverter that counts.
     ///
-    /// `main` and `preprocessed`, if there is one, have the same height. `challenges` are an alpha and a
-    /// beta for each lookup, in the order of their columns. The trace has that height and one column
-    /// more than there are lookups: the accumulator, then the fraction of each lookup. Without lookups
-    /// it has width 0, and there is no terminal.
+    /// `challenges` are an alpha and a beta for each lookup, in the order of their columns. The trace has
+    /// the height of `traces` and one column more than there are lookups: the accumulator, then the
+    /// fraction of each lookup. Without lookups it has width 0, and there is no terminal.
     ///
     /// Rows are made in chunks of 1024, and all fractions of a chunk are divided by one inverse.
     /// `inverter` counts at most one call for each chunk that is started, even if the trace is
-    /// refused: at most `height / 1024`, rounded up. It counts at least one call less if a fault is
-    /// refused, and none if no lookup has tuples. The challenges may be of a domain without an
-    /// inverse of its own: for each function that inverts its elements, the answer is that of
-    /// generation by this function.
+    /// refused: at most the height divided by 1024, rounded up. It counts at least one call less if
+    /// a fault is refused, and none if no lookup has tuples. The challenges may be of a domain
+    /// without an inverse of its own: for each function that inverts its elements, the answer is that
+    /// of generation by this function.
     ///
     /// Refuses the first fault in the order row, lookup, and returns nothing of the trace; on one
     /// row of one lookup, in the order of `generate_permutation`. Also fails when out of memory,
     /// with `Memory`.
-    pub fn generate_counted<'a, F: Field, EF: ExtensionDomain<F>, I: Inverter<EF>>(
+    pub fn generate_counted<F: Field, EF: ExtensionDomain<F>, I: Inverter<EF>>(
         &self,
         alloc: Global,
-        main: &'a RowMajorMatrix<F>,
-        preprocessed: Option<&'a RowMajorMatrix<F>>,
-        public_values: &[F],
+        traces: &Traces<'_, F>,
         lookups: &[Lookup<F>],
         challenges: &[EF],
         inverter: &mut I,
     ) -> Result<(RowMajorMatrix<EF>, Option<LookupTerminal<EF>>), LookupError>
-        requires heights { ForSome (option_copied preprocessed) (λ m. height m ≡ height main.now) }
-        requires fit { LookupsFit (layout_of_traces main.now
-            (option_copied preprocessed) public_values.now) lookups.now }
+        requires fit { LookupsFit (layout_of (traces_of traces.now)) lookups.now }
         requires challenges { 2 * length lookups.now ≤ length challenges.now }
         ensures answers { ForExtensions F.ring F.eq EF.ring EF.eq EF.embed (λ E.
-            AnswersGeneration E
-            (air_traces main.now (option_copied preprocessed.entry) public_values.now)
-            lookups.now challenges.now result) }
+            AnswersGeneration E (traces_of traces.now) lookups.now challenges.now result) }
         ensures counted { I.count inverter.new
-            ≤ I.count inverter.old + started_chunks (height main.now) }
+            ≤ I.count inverter.old + started_chunks (height_of (traces_of traces.now)) }
         ensures one_fewer_if_refused { IfErr result (λ e. (e ≡ LookupError.Memory)
-            ⊎ (I.count inverter.new < I.count inverter.old + started_chunks (height main.now))) }
+            ⊎ (I.count inverter.new
+            < I.count inverter.old + started_chunks (height_of (traces_of traces.now)))) }
         ensures nothing_sent { HaveNoTuples lookups.now
             → I.count inverter.new ≡ I.count inverter.old }
     {
-        let traces = Traces {
-            main,
-            preprocessed,
-            public_values,
-        };
-        lookup_generation::generate_counted(alloc, &traces, lookups, challenges, inverter)
+        lookup_generation::generate_counted(alloc, traces, lookups, challenges, inverter)
     }
 }
 

@@ -3,7 +3,7 @@ use crate::inputs::{
     BALANCED, LOCAL, LOOKUPS, UNLAWFUL, VANISHING, elements, lookups_of, read, table, trace,
 };
 use crate::show::{Out, input, show};
-use air::AirLayout;
+use air::{AirLayout, Traces};
 use field::{ExtensionField, F7, Field, InverseCount};
 use lookup::{Challenges, LogUpGadget, Lookup, LookupError, LookupProtocol, LookupTerminal, fits};
 use matrix::RowMajorMatrix;
@@ -27,12 +27,15 @@ fn generate<F: Field, EF: ExtensionField<F>>(
         return Err(LookupError::DegreeOverflow);
     }
     let gadget = LogUpGadget::new();
-    match count {
-        Some(count) => {
-            gadget.generate_counted(alloc, main, None, &[], lookups, challenges, count)
-        }
-        None => gadget.generate_permutation(alloc, main, None, &[], lookups, challenges),
-    }
+    let Some(count) = count else {
+        return gadget.generate_permutation(alloc, main, None, &[], lookups, challenges);
+    };
+    let traces = Traces {
+        main,
+        preprocessed: None,
+        public_values: &[],
+    };
+    gadget.generate_counted(alloc, &traces, lookups, challenges, count)
 }
 
 /// Both calls over one trace, and what the second one has counted.

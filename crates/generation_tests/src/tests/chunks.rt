@@ -1,7 +1,7 @@
 //! Generation in chunks of 1024 rows: what stands where chunks meet, and how many inverses are counted.
 use super::comparison::ranges;
 use super::{Made, are_numbers, are_zero, holds, local, range, trace};
-use air::AirLayout;
+use air::{AirLayout, Traces};
 use field::{
     BabyBear, BabyBear4, ExtensionDomain, F7, Field, InverseCount, Inverter,
     PrimeCharacteristicRing,
@@ -24,16 +24,12 @@ pub(super) fn generate_counted<F: Field, EF: ExtensionDomain<F>, I: Inverter<EF>
     let layout = AirLayout::of_traces(main, None, no_values.as_slice());
     assert!(rt; fits(lookups, &layout));
     assert!(rt; lookups.len() <= challenges.len() / 2);
-    let answer = LogUpGadget::new().generate_counted(
-        alloc,
+    let traces = Traces {
         main,
-        None,
-        no_values.as_slice(),
-        lookups,
-        challenges,
-        inverter,
-    );
-    match answer {
+        preprocessed: None,
+        public_values: no_values.as_slice(),
+    };
+    match LogUpGadget::new().generate_counted(alloc, &traces, lookups, challenges, inverter) {
         Ok((auxiliary, terminal)) => Ok(Made::new(auxiliary, terminal)),
         Err(fault) => Err(fault),
     }

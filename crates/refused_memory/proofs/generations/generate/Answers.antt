@@ -7,9 +7,6 @@ pub generate_counted-requires-clause-fit : goal.generate_counted-requires-clause
 generate_counted-requires-clause-fit g c =
     subst (λ l. LookupsFit l c.args.lookups.now) c.of_traces-layout.ensures (c.if-not-fits.ensures.0 refl)
 
-pub generate_counted-requires-clause-heights : goal.generate_counted-requires-clause-heights
-generate_counted-requires-clause-heights g c x is = absurd (none-some x is)
-
 pub generate_counted-requires-clause-challenges : goal.generate_counted-requires-clause-challenges
 generate_counted-requires-clause-challenges g c = omega (arith, c.if-lookups-challenges.false)
 
