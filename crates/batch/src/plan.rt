@@ -1,5 +1,5 @@
 //! Plans of batches.
-ghost use Rattle.std.specs.Prelude.{◌≡◌, ◌⊎◌, ◌≤◌, MatchResult, length, map};
+ghost use Rattle.std.specs.Prelude.{◌≡◌, ◌≤◌, MatchResult, length, map};
 ghost use Rattle.std.specs.List.{AllZip};
 ghost use Rattle.batch.specs.PlanFacts.{IsPlan};
 ghost use Rattle.batch.specs.Plans.{plan_with};
@@ -51,7 +51,7 @@ pub struct BatchPlan<F: Field> {
 }
 
 impl<F: Field> BatchPlan<F> {
-    ghost use Rattle.batch.specs.Checks.{HaveEvenWidths, IsPlanFor, IsPlanOver, IsPlanRefusal, IsRefusalOver, IsSizeRefusal, plan_over};
+    ghost use Rattle.batch.specs.Checks.{HaveEvenWidths, IsPlanFor, IsPlanOver, IsPlanRefusal, IsRefusalOver, IsSizeRefusal, OrMemory, plan_over};
     ghost use Rattle.batch.specs.Lists.{lists_of};
     ghost use Rattle.batch.specs.PlanFacts.{AreAssigned};
     ghost use Rattle.batch.specs.Packing.{ArePackedAirs, KeepsPlanCounts};
@@ -89,8 +89,7 @@ impl<F: Field> BatchPlan<F> {
         heights: Vec<usize>,
     ) -> Result<Self, BatchError>
         ensures { MatchResult result (λ plan. IsPlanFor airs.items heights.items (plan_of plan))
-            (λ e. (e ≡ BatchError.Memory)
-            ⊎ IsPlanRefusal F.CHARACTERISTIC airs.items heights.items e) }
+            (OrMemory (IsPlanRefusal F.CHARACTERISTIC airs.items heights.items)) }
     {
         check_airs(alloc, airs.as_slice(), heights.as_slice())?;
         let PlanIds { ids, count } = plan_ids(alloc, airs.as_slice())?;
@@ -118,10 +117,9 @@ impl<F: Field> BatchPlan<F> {
         ids: Vec<Vec<usize>>,
         num_ids: usize,
     ) -> Result<Self, BatchError>
-        ensures { MatchResult result
-            (λ plan. IsPlanOver airs.items heights.items (lists_of ids.items) num_ids (plan_of plan))
-            (λ e. (e ≡ BatchError.Memory)
-            ⊎ IsRefusalOver F.CHARACTERISTIC airs.items heights.items (lists_of ids.items) num_ids e) }
+        ensures { let given = lists_of ids.items in MatchResult result
+            (λ plan. IsPlanOver airs.items heights.items given num_ids (plan_of plan))
+            (OrMemory (IsRefusalOver F.CHARACTERISTIC airs.items heights.items given num_ids)) }
     {
         check_airs(alloc, airs.as_slice(), heights.as_slice())?;
         if !are_assigned(alloc, airs.as_slice(), ids.as_slice(), num_ids)? {
@@ -143,8 +141,7 @@ impl<F: Field> BatchPlan<F> {
         requires ids { AreAssigned (lists_of ids.items) airs.items num_ids }
         ensures { MatchResult result
             (λ plan. plan_of plan ≡ plan_over airs.items heights.items (lists_of ids.items) num_ids)
-            (λ e. (e ≡ BatchError.Memory)
-            ⊎ IsSizeRefusal airs.items heights.items F.CHARACTERISTIC num_ids e) }
+            (OrMemory (IsSizeRefusal airs.items heights.items F.CHARACTERISTIC num_ids)) }
     {
         if num_ids as u128 > F::CHARACTERISTIC {
             return Err(BatchError::TooManyIds { ids: num_ids });

@@ -16,6 +16,7 @@ use Rattle.lookup_tables.specs.declared.tables.Tables.{Tables}
 use Rattle.lookup_tables.specs.declared.traces.ReadTraces.{ReadTraces}
 use Rattle.lookup_tables.specs.declared.traces.Traces.{Traces}
 use Rattle.lookup_c.specs.BatchTables.{AreTracesOfTables, IsTracesOfTablesRefusal}
+use Rattle.lookup_c.specs.CallAnswers.{CallAnswers}
 use Rattle.lookup_c.specs.DebugCheck.{AreDebugSets, IsDebugSetsRefusal, IsFirstDebugMisfit, all_debug_traced, debug_element_text}
 use Rattle.lookup_c.specs.GroupNumbers.{element_number, mismatch_numbers, table_numbers}
 use Rattle.lookup_c.specs.WrittenTables.{written_over}
@@ -24,6 +25,7 @@ use Rattle.lookup_c.specs.declared.debug_numbers.Asked.{Asked}
 use Rattle.lookup_c.specs.declared.debug_numbers.Asked.TheVariants as asked
 use Rattle.lookup_c.specs.declared.fault.Fault.{Fault}
 use Rattle.lookup_c.specs.declared.fault.Fault.TheVariants.{Length, Memory}
+use Rattle.lookup_c.specs.declared.refusal.Refusal.{Refusal}
 
 module _ {p : ℕ} (E : Extension (Residue p) (Quartic (Residue p))) (limit : ℕ) (ts : List (Traced (Residue p))) (numbers : List ℕ) where
   -- the numbers of the table of all groups
@@ -80,3 +82,7 @@ module _ {p : ℕ} (positive : 0 < p) (E : Extension (Residue p) (Quartic (Resid
     pub written_is : written ≡ length numbers
     pub within : written ≤ length before
     pub after_is : after ≡ written_over numbers before
+
+  -- the code and the refusal of a call that writes them so
+  abbrev pub AnswersTelling : List ℕ → List ℕ → ℕ → ℕ → Refusal → Type 0
+  AnswersTelling before after written code refusal = CallAnswers code refusal (CallTells before after written) (IsTellingRefusal (length before))

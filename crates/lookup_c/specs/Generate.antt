@@ -18,6 +18,7 @@ use Rattle.lookup_tables.specs.Tables.{TablesEncode}
 use Rattle.lookup_tables.specs.TraceNumbers.{AreNumbersOfTraces}
 use Rattle.lookup_tables.specs.declared.tables.Tables.{Tables}
 use Rattle.lookup_tables.specs.declared.traces.Traces.{Traces}
+use Rattle.lookup_c.specs.CallAnswers.{CallAnswers}
 use Rattle.lookup_c.specs.Inputs.{AreInputElements, IsInputListRefusal, IsInputTableRefusal, IsInputTracesRefusal, decoded_traces}
 use Rattle.lookup_c.specs.Outputs.{output_cells, terminal_numbers}
 use Rattle.lookup_c.specs.declared.fault.Fault.{Fault}
@@ -25,6 +26,7 @@ use Rattle.lookup_c.specs.declared.fault.Fault.TheVariants.{Heights, Length, Loo
 use Rattle.lookup_c.specs.declared.codes.Part.TheVariants.{Auxiliary, Challenges}
 use Rattle.lookup_c.specs.declared.generate.Generated.{Generated}
 use Rattle.lookup_c.specs.declared.outputs.Terminal.{Terminal}
+use Rattle.lookup_c.specs.declared.refusal.Refusal.{Refusal}
 
 module _ {F : Type 0} (traces : AirTraces F) (lookups : List (Lookup F)) where
   -- the lookups fit the traces, which have one height
@@ -121,3 +123,7 @@ module _ {p : ℕ} (positive : 0 < p) (E : Extension (Residue p) (Quartic (Resid
   -- the refusal of a call with room for so many cells
   abbrev pub IsGenerateCallRefusal : ℕ → Fault → Type 0
   IsGenerateCallRefusal room fault = IsGenerateRefusal fault ⊎ LacksGenerateRoom CallGeneratesTables room fault
+
+  -- the code and the refusal of a call that generates, with room for so many cells
+  abbrev pub AnswersGenerate : ℕ → List (List ℕ) → Terminal → ℕ → Refusal → Type 0
+  AnswersGenerate room cells ending code refusal = CallAnswers code refusal (CallGeneratesNumbers cells ending) (IsGenerateCallRefusal room)

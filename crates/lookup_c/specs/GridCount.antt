@@ -9,6 +9,7 @@ use Rattle.batch.specs.declared.error.BatchError.{BatchError}
 use Rattle.batch.specs.declared.grid.GridCount.{GridCount}
 use Rattle.batch.specs.declared.trace.BatchTrace.{BatchTrace}
 use Rattle.lookup_tables.specs.declared.traces.Traces.{Traces}
+use Rattle.lookup_c.specs.CallAnswers.{CallAnswers}
 use Rattle.lookup_c.specs.BatchTables.{IsBatchOfTables, IsBatchOfTablesRefusal}
 use Rattle.lookup_c.specs.Inputs.{AreInputElements, IsInputListRefusal}
 use Rattle.lookup_c.specs.Outputs.{IsOptionalWide, wide_number}
@@ -17,6 +18,7 @@ use Rattle.lookup_c.specs.declared.codes.Part.TheVariants.{Alphas, Betas}
 use Rattle.lookup_c.specs.declared.fault.Fault.{Fault}
 use Rattle.lookup_c.specs.declared.fault.Fault.TheVariants.{Batch}
 use Rattle.lookup_c.specs.declared.grid_count.Grid.{Grid}
+use Rattle.lookup_c.specs.declared.refusal.Refusal.{Refusal}
 
 -- the numbers of a count
 pub record AreGridCountNumbers (count : GridCount) (numbers : Grid) : Type 0 where
@@ -51,3 +53,7 @@ module _ {p : ℕ} (positive : 0 < p) (E : Extension (Residue p) (Quartic (Resid
   -- the numbers of a count
   abbrev pub GridCountIsNumbers : Grid → Type 0
   GridCountIsNumbers numbers = (count : GridCount) × GridCountOfTables count × AreGridCountNumbers count numbers
+
+  -- the code and the refusal of a call that counts over a grid
+  abbrev pub AnswersGridCount : Grid → ℕ → Refusal → Type 0
+  AnswersGridCount numbers code refusal = CallAnswers code refusal (GridCountIsNumbers numbers) IsGridCountRefusal

@@ -7,10 +7,12 @@ use Rattle.lookup_generation.specs.Ranges.{shifted}
 use Rattle.matrix.specs.Matrix.{Matrix}
 use Rattle.lookup_tables.specs.Numbers.{AreNumberGroupsBelow, IsFirstLargeNumberGroup, IsNumberGroup, quartic_of_numbers}
 use Rattle.lookup_tables.specs.TraceNumbers.{makes_rows}
+use Rattle.lookup_c.specs.CallAnswers.{CallAnswers}
 use Rattle.lookup_c.specs.Outputs.{output_cells}
 use Rattle.lookup_c.specs.declared.codes.Part.TheVariants.{Auxiliary, Offset}
 use Rattle.lookup_c.specs.declared.fault.Fault.{Fault}
 use Rattle.lookup_c.specs.declared.fault.Fault.TheVariants.{Large, Ragged}
+use Rattle.lookup_c.specs.declared.refusal.Refusal.{Refusal}
 
 -- the rows of this width that have these cells
 abbrev pub shift_rows : {p : ℕ} → 0 < p → List (List ℕ) → ℕ → Matrix (Quartic (Residue p))
@@ -34,3 +36,7 @@ IsShiftRefusal p cells width offset fault =
     ((fault ≡ Large Offset 0 0) × (¬ IsNumberGroup p offset))
     ⊎ (((fault ≡ Ragged 0) × (makes_rows (length cells) width ≡ false))
     ⊎ (i : ℕ) × (fault ≡ Large Auxiliary 0 i) × IsFirstLargeNumberGroup p cells i)
+
+-- the code and the refusal of a call that shifts rows
+abbrev pub AnswersShift : {p : ℕ} → 0 < p → Ring (Quartic (Residue p)) → List (List ℕ) → ℕ → List ℕ → List (List ℕ) → ℕ → Refusal → Type 0
+AnswersShift {p} positive R cells width offset after code refusal = CallAnswers code refusal (ShiftsCells positive cells width offset R after) (IsShiftRefusal p cells width offset)

@@ -9,12 +9,14 @@ use Rattle.batch.specs.SoundnessCounts.{CountsLinearly, CountsPlan, CountsSoundl
 use Rattle.batch.specs.declared.error.BatchError.{BatchError}
 use Rattle.batch.specs.declared.trace.BatchTrace.{BatchTrace}
 use Rattle.lookup_tables.specs.declared.traces.Traces.{Traces}
+use Rattle.lookup_c.specs.CallAnswers.{CallAnswers}
 use Rattle.lookup_c.specs.BatchTables.{IsBatchOfTablesRefusal, OfBatchOfTables}
 use Rattle.lookup_c.specs.Outputs.{IsOptionalWide, wide_number}
 use Rattle.lookup_c.specs.declared.batch_tables.Air.{Air}
 use Rattle.lookup_c.specs.declared.fault.Fault.{Fault}
 use Rattle.lookup_c.specs.declared.fault.Fault.TheVariants.{Batch}
 use Rattle.lookup_c.specs.declared.outputs.Wide.{Wide}
+use Rattle.lookup_c.specs.declared.refusal.Refusal.{Refusal}
 use Rattle.lookup_c.specs.declared.soundness_count.Counts.{Counts}
 
 -- The number W * (k - 1), where k messages do not balance: for every W whose bound W * k * (k - 1) / 2 is
@@ -49,3 +51,7 @@ module _ {p : ℕ} (positive : 0 < p) (E : Extension (Residue p) (Quartic (Resid
   -- the numbers of the counts
   abbrev pub SoundnessCountIsNumbers : Counts → Type 0
   SoundnessCountIsNumbers numbers = (count : SoundnessCount) × SoundnessCountOfTables count × AreSoundnessCountNumbers count numbers
+
+  -- the code and the refusal of a call that counts messages
+  abbrev pub AnswersSoundnessCount : Counts → ℕ → Refusal → Type 0
+  AnswersSoundnessCount numbers code refusal = CallAnswers code refusal (SoundnessCountIsNumbers numbers) IsSoundnessCountRefusal

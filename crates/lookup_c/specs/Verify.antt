@@ -7,11 +7,13 @@ use Rattle.field.specs.Extension.{Extension}
 use Rattle.batch.specs.Runs.{PassIsCounted, RefusesOnlyUnaccepted, Run, Verifies, VerifiesOnlyPlain}
 use Rattle.batch.specs.declared.error.BatchError.{BatchError}
 use Rattle.lookup_tables.specs.declared.traces.Traces.{Traces}
+use Rattle.lookup_c.specs.CallAnswers.{CallAnswers}
 use Rattle.lookup_c.specs.BatchTables.{IsRunOfTablesRefusal, OfRunOfTables}
 use Rattle.lookup_c.specs.Witnesses.{IsWitnessOfNumbers, IsWitnessRefusal}
 use Rattle.lookup_c.specs.declared.batch_tables.Air.{Air}
 use Rattle.lookup_c.specs.declared.fault.Fault.{Fault}
 use Rattle.lookup_c.specs.declared.fault.Fault.TheVariants.{Batch}
+use Rattle.lookup_c.specs.declared.refusal.Refusal.{Refusal}
 use Rattle.lookup_c.specs.declared.witness.AirWitness.{AirWitness}
 
 -- what `BatchPlan::verify` says of its answer
@@ -35,3 +37,7 @@ module _ {p : ℕ} (positive : 0 < p) (E : Extension (Residue p) (Quartic (Resid
       ⊎ (IsWitnessRefusal p numbers fault
       ⊎ ((e : BatchError) × (witness : Witness (Quartic (Residue p))) × (fault ≡ Batch e) × IsWitnessOfNumbers positive numbers witness
       × OfRunOfTables positive E airs traces alpha beta (λ run. CallVerifiesPlan witness run (Err e))))
+
+  -- the code and the refusal of a call that verifies a batch
+  abbrev pub AnswersVerify : ℕ → Refusal → Type 0
+  AnswersVerify code refusal = CallAnswers code refusal VerifiesTables IsVerifyRefusal

@@ -14,6 +14,7 @@ use Rattle.lookup_tables.specs.Tables.{TablesEncode}
 use Rattle.lookup_tables.specs.TraceNumbers.{AreNumbersOfTraces}
 use Rattle.lookup_tables.specs.declared.tables.Tables.{Tables}
 use Rattle.lookup_tables.specs.declared.traces.Traces.{Traces}
+use Rattle.lookup_c.specs.CallAnswers.{CallAnswers}
 use Rattle.lookup_c.specs.Generate.{GenerateFits, HasFewChallenges, IsGenerateUnfit}
 use Rattle.lookup_c.specs.Inputs.{AreInputElements, IsInputListRefusal, IsInputTableRefusal, IsInputTracesRefusal, decoded_traces}
 use Rattle.lookup_c.specs.VerifyRows.{witness_result}
@@ -21,6 +22,7 @@ use Rattle.lookup_c.specs.Witnesses.{IsAirWitness, IsWitnessAuxiliaryRefusal, Is
 use Rattle.lookup_c.specs.declared.codes.Part.TheVariants.{Challenges}
 use Rattle.lookup_c.specs.declared.fault.Fault.{Fault}
 use Rattle.lookup_c.specs.declared.fault.Fault.TheVariants.{Batch, Memory}
+use Rattle.lookup_c.specs.declared.refusal.Refusal.{Refusal}
 use Rattle.lookup_c.specs.declared.witness.AirWitness.{AirWitness}
 
 module _ {F K : Type 0} (E : Extension F K) (traces : AirTraces F) (lookups : List (Lookup F)) (challenges : List K) (result : AirResult K) where
@@ -74,3 +76,7 @@ module _ {p : ℕ} (positive : 0 < p) (E : Extension (Residue p) (Quartic (Resid
       ⊎ (IsWitnessAuxiliaryRefusal p 0 numbers fault
       ⊎ (IsWitnessTerminalRefusal p 0 numbers.terminal fault
       ⊎ OfVerifyAir (λ lookups elements. IsVerifyOverRefusal E (decoded_traces positive traces) lookups elements (witness_result positive numbers) fault)))))
+
+  -- the code and the refusal of a call that verifies one AIR
+  abbrev pub AnswersVerifyAir : ℕ → Refusal → Type 0
+  AnswersVerifyAir code refusal = CallAnswers code refusal CallVerifiesAir IsVerifyAirRefusal

@@ -17,6 +17,7 @@ use Rattle.lookup_model.specs.declared.types.Lookup.{Lookup}
 use Rattle.lookup_ranges.specs.Around.{AreAround, IsMatrixAround}
 use Rattle.lookup_tables.specs.declared.tables.Tables.{Tables}
 use Rattle.lookup_tables.specs.declared.traces.Traces.{Traces}
+use Rattle.lookup_c.specs.CallAnswers.{CallAnswers}
 use Rattle.lookup_c.specs.Inputs.{decoded_traces}
 use Rattle.lookup_c.specs.PlannedAirs.{IsPlannedAirRefusal, IsPlannedAir, planned_table}
 use Rattle.lookup_c.specs.Rows.{HasCallRowsAround, IsRowsRefusal, range_of}
@@ -24,6 +25,7 @@ use Rattle.lookup_c.specs.Witnesses.{IsAirWitness, IsWitnessAuxiliaryRefusal, Is
 use Rattle.lookup_c.specs.declared.fault.Fault.{Fault}
 use Rattle.lookup_c.specs.declared.fault.Fault.TheVariants.{Batch, Memory}
 use Rattle.lookup_c.specs.declared.plan.PlanSizes.{PlanSizes}
+use Rattle.lookup_c.specs.declared.refusal.Refusal.{Refusal}
 use Rattle.lookup_c.specs.declared.rows.Rows.{Rows}
 use Rattle.lookup_c.specs.declared.witness.AirWitness.{AirWitness}
 
@@ -79,3 +81,7 @@ module _ {p : ℕ} (positive : 0 < p) (E : Extension (Residue p) (Quartic (Resid
       ⊎ ((fault ≡ Memory)
       ⊎ (((error : LookupError) × (fault ≡ Batch (OfLookup error)) × OfVerifyRows (λ lookups _. IsShapeRefusal 0 (instance_with_ids lookups ids (decoded_traces positive around)) (witness_result positive numbers) error))
       ⊎ ((row : ℕ) × (fault ≡ Batch (OfLookup (ConstraintFailed 0 row))) × (row < rows.end) × IsFailingVerifyRow row))))))
+
+  -- the code and the refusal of a call that verifies a range of rows
+  abbrev pub AnswersVerifyRows : ℕ → Refusal → Type 0
+  AnswersVerifyRows code refusal = CallAnswers code refusal CallVerifiesRows IsVerifyRowsRefusal

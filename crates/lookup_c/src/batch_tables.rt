@@ -1,6 +1,7 @@
 //! The AIRs of a batch, and the plan that they make.
-ghost use Rattle.std.specs.Prelude.{◌≡◌, ◌⊎◌, IfOk, MatchResult, map, max};
+ghost use Rattle.std.specs.Prelude.{◌≡◌, IfOk, MatchResult, map, max};
 ghost use Rattle.std.specs.List.{list_any};
+ghost use Rattle.batch.specs.Checks.{OrMemory};
 ghost use Rattle.batch.specs.Lists.{lists_of};
 ghost use Rattle.batch.specs.Runs.{plan_of};
 ghost use Rattle.batch.specs.Traces.{view_of};
@@ -124,7 +125,7 @@ fn plan_over<const P: u32, K: QuarticParameters<P>>(
 ) -> Result<BatchPlan<MontyField31<P, K>>, BatchError>
     ensures { MatchResult result
         (λ plan. IsPlanOverGiven airs.now sets.items heights.items (plan_of plan))
-        (λ e. (e ≡ BatchError.Memory) ⊎ IsGivenIdsRefusal airs.now sets.items heights.items e) }
+        (OrMemory (IsGivenIdsRefusal airs.now sets.items heights.items)) }
 {
     let ids = given_ids(alloc, airs)?;
     let num_ids = id_bound(&ids);
@@ -140,7 +141,7 @@ fn plan_from<const P: u32, K: QuarticParameters<P>>(
 ) -> Result<BatchPlan<MontyField31<P, K>>, BatchError>
     ensures { MatchResult result
         (λ plan. IsPlanFromTables airs.now sets.items heights.items (plan_of plan))
-        (λ e. (e ≡ BatchError.Memory) ⊎ IsPlanningRefusal airs.now sets.items heights.items e) }
+        (OrMemory (IsPlanningRefusal airs.now sets.items heights.items)) }
 {
     if has_ids(airs) {
         plan_over(alloc, airs, sets, heights)

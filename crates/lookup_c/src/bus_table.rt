@@ -1,8 +1,7 @@
 //! The call that tells what each group sends and receives.
-ghost use Rattle.std.specs.Prelude.{◌≡◌, ◌≢◌, length};
+ghost use Rattle.std.specs.Prelude.{◌≡◌, ◌≢◌};
 ghost use Rattle.field.specs.laws.BabyBear.{baby_bear_positive};
-ghost use Rattle.lookup_c.specs.CallAnswers.{CallAnswers};
-ghost use Rattle.lookup_c.specs.DebugNumbers.{CallTells, IsTellingRefusal};
+ghost use Rattle.lookup_c.specs.DebugNumbers.{AnswersTelling};
 ghost use Rattle.lookup_c.specs.declared.debug_numbers.Asked.TheVariants.{Table};
 
 use crate::debug_numbers::{Asked, answer_debug_numbers};
@@ -30,10 +29,8 @@ pub extern "C" fn volgwain_bus_table(
     refusal: &mut Refusal,
     text: &mut [u8],
 ) -> u32
-    ensures answers { let E = ⟦<BabyBear4 as Over<BabyBear>>⟧.fields in
-        CallAnswers result refusal.new
-        (CallTells baby_bear_positive E Table airs.now traces.now limit numbers.old numbers.new written.new)
-        (IsTellingRefusal baby_bear_positive E Table airs.now traces.now limit (length numbers.old)) }
+    ensures answers { AnswersTelling baby_bear_positive ⟦<BabyBear4 as Over<BabyBear>>⟧.fields
+        Table airs.now traces.now limit numbers.old numbers.new written.new result refusal.new }
     ensures kept { result ≢ 0 → (numbers.new ≡ numbers.old) × (written.new ≡ written.old) }
 {
     match answer_debug_numbers::<2_013_265_921, BabyBearParameters>(

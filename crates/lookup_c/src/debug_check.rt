@@ -1,5 +1,5 @@
 //! The call that finds the first tuple that does not balance.
-ghost use Rattle.std.specs.Prelude.{◌≡◌, ◌≢◌, ◌⊎◌, MatchResult, length, map};
+ghost use Rattle.std.specs.Prelude.{◌≡◌, ◌⊎◌, MatchResult, length, map};
 ghost use Rattle.field.specs.laws.BabyBear.{baby_bear_positive};
 ghost use Rattle.lookup_debug.specs.Contributions.{AreFitting, IsTracedFitting, traced_of};
 ghost use Rattle.lookup_c.specs.DebugCheck.{AreDebugInstances, AreDebugSets, DebugChecksTables, DebugChecksTraced, IsDebugCheckRefusal, IsDebugMisfit, IsDebugMismatch, IsDebugSetsRefusal, IsFirstDebugMisfit, all_debug_traced, debug_traced};
@@ -94,8 +94,7 @@ fn check_instances<const P: u32, K: QuarticParameters<P>>(
 ) -> Result<(), Fault>
     requires { AreFitting instances.now }
     ensures { let E = ⟦<MontyQuartic<P, K> as Over<MontyField31<P, K>>>⟧.fields in
-        MatchResult result
-        (λ _. DebugChecksTraced E (map traced_of instances.now))
+        MatchResult result (λ _. DebugChecksTraced E (map traced_of instances.now))
         (IsDebugMismatch E (map traced_of instances.now)) }
 {
     match check_lookups(alloc, instances) {

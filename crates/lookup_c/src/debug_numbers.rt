@@ -1,8 +1,9 @@
 //! What the debug check finds, as numbers for C.
-ghost use Rattle.std.specs.Prelude.{◌≡◌, ◌≤◌, MatchResult, length, map};
-ghost use Rattle.lookup_c.specs.DebugNumbers.{IsTellingRefusal, TellsNumbers, TellsTables};
+ghost use Rattle.std.specs.Prelude.{◌≡◌, MatchResult, map};
+ghost use Rattle.lookup_c.specs.DebugNumbers.{IsTellingRefusal, TellsNumbers};
 ghost use Rattle.lookup_c.specs.declared.fault.Fault.TheVariants.{Memory};
 ghost use Rattle.lookup_debug.specs.Contributions.{AreFitting, traced_of};
+ghost use Rattle.lookup_c.specs.internal.Batches.{TellsInRoom};
 
 use crate::batch_tables::all_traces;
 use crate::codes::Part;
@@ -33,8 +34,7 @@ fn numbers_of<const P: u32, K: QuarticParameters<P>>(
 ) -> Result<Vec<usize>, Fault>
     requires { AreFitting instances.now }
     ensures { let E = ⟦<MontyQuartic<P, K> as Over<MontyField31<P, K>>>⟧.fields in
-        MatchResult result
-        (λ numbers. TellsNumbers E limit (map traced_of instances.now) numbers.items asked)
+        MatchResult result (λ v. TellsNumbers E limit (map traced_of instances.now) v.items asked)
         (λ fault. fault ≡ Memory) }
 {
     match asked {
@@ -62,9 +62,7 @@ pub(crate) fn answer_debug_numbers<const P: u32, K: QuarticParameters<P>>(
     room: usize,
 ) -> Result<Vec<usize>, Fault>
     ensures { let E = ⟦<MontyQuartic<P, K> as Over<MontyField31<P, K>>>⟧.fields in
-        MatchResult result
-        (λ made. TellsTables K.positive E asked airs.now traces.now limit made.items
-        × (length made.items ≤ room))
+        MatchResult result (TellsInRoom K.positive E asked airs.now traces.now limit room)
         (IsTellingRefusal K.positive E asked airs.now traces.now limit room) }
 {
     if traces.len() != airs.len() {

@@ -3,10 +3,9 @@ ghost use Rattle.std.specs.Prelude.{◌≡◌, ◌≢◌, ◌≤◌, ◌*◌, Ma
 ghost use Rattle.std.specs.Result.{OnErr};
 ghost use Rattle.field.specs.laws.BabyBear.{baby_bear_positive};
 ghost use Rattle.air.specs.Traces.{HaveOneHeight, traces_of};
-ghost use Rattle.lookup_c.specs.CallAnswers.{CallAnswers};
-ghost use Rattle.lookup_c.specs.Generate.{GenerateFits, HasFewChallenges, HasOtherGenerateRoom, CallGeneratesLookups, CallGeneratesNumbers, CallGeneratesTables, IsGenerateCallRefusal, IsFirstGenerateFault, IsGenerateLookupsRefusal, IsGenerateRefusal, IsGenerateUnfit};
+ghost use Rattle.lookup_c.specs.Generate.{AnswersGenerate, GenerateFits, HasFewChallenges, HasOtherGenerateRoom, IsGenerateRefusal, IsGenerateUnfit};
 ghost use Rattle.lookup_c.specs.Inputs.{view_of_read};
-ghost use Rattle.lookup_c.specs.internal.Generate.{AreNumbersOfGenerated};
+ghost use Rattle.lookup_c.specs.internal.Generate.{AreNumbersOfGenerated, GeneratesRead, GeneratesTables, IsFirstGenerateReadFault, IsGenerateReadRefusal, ResultOfGenerate};
 
 use crate::codes::Part;
 use crate::fault::{Fault, lookup_fault};
@@ -94,9 +93,8 @@ pub(crate) fn generate_fitting<const P: u32, K: QuarticParameters<P>>(
     requires fit { GenerateFits (view_of_read traces.now) lookups.now }
     requires challenges { 2 * length lookups.now ≤ length challenges.now }
     ensures { let E = ⟦<MontyQuartic<P, K> as Over<MontyField31<P, K>>>⟧.fields in
-        MatchResult result
-        (CallGeneratesLookups E (view_of_read traces.now) challenges.now lookups.now)
-        (IsFirstGenerateFault E (view_of_read traces.now) challenges.now lookups.now) }
+        MatchResult result (GeneratesRead E traces.now challenges.now lookups.now)
+        (IsFirstGenerateReadFault E traces.now challenges.now lookups.now) }
 {
     match generate_permutation(alloc, &traces_as_one(traces), lookups, challenges) {
         Ok((auxiliary, terminal)) => Ok(Generated {
@@ -115,9 +113,8 @@ fn generate_lookups<const P: u32, K: QuarticParameters<P>>(
     challenges: &[MontyQuartic<P, K>],
 ) -> Result<Generated<MontyQuartic<P, K>>, Fault>
     ensures { let E = ⟦<MontyQuartic<P, K> as Over<MontyField31<P, K>>>⟧.fields in
-        MatchResult result
-        (CallGeneratesLookups E (view_of_read traces.now) challenges.now lookups.now)
-        (IsGenerateLookupsRefusal E (view_of_read traces.now) challenges.now lookups.now) }
+        MatchResult result (GeneratesRead E traces.now challenges.now lookups.now)
+        (IsGenerateReadRefusal E traces.now challenges.now lookups.now) }
 {
     check_fit(traces, lookups)?;
     check_enough(lookups, challenges)?;
@@ -135,9 +132,7 @@ fn generate_tables<const P: u32, K: QuarticParameters<P>>(
     challenges: &[[u32; 4]],
 ) -> Result<Generated<MontyQuartic<P, K>>, Fault>
     ensures { let E = ⟦<MontyQuartic<P, K> as Over<MontyField31<P, K>>>⟧.fields in
-        MatchResult result
-        (λ g. CallGeneratesTables K.positive E tables.now traces.now challenges.now g.auxiliary
-        g.terminal)
+        MatchResult result (GeneratesTables K.positive E tables.now traces.now challenges.now)
         (IsGenerateRefusal K.positive E tables.now traces.now challenges.now) }
 {
     let lookups = lookups_of::<P, K>(alloc, 0, tables)?;
@@ -175,10 +170,8 @@ pub(crate) fn answer_generate<const P: u32, K: QuarticParameters<P>>(
     terminal: &mut Terminal,
 ) -> Result<(), Fault>
     ensures answers { let E = ⟦<MontyQuartic<P, K> as Over<MontyField31<P, K>>>⟧.fields in
-        MatchResult result (λ _. CallGeneratesNumbers K.positive E tables.now traces.now
-        challenges.now auxiliary.new terminal.new)
-        (IsGenerateCallRefusal K.positive E tables.now traces.now challenges.now
-        (length auxiliary.old)) }
+        ResultOfGenerate K.positive E tables.now traces.now challenges.now (length auxiliary.old)
+        auxiliary.new terminal.new result }
     ensures kept { OnErr result
         ((auxiliary.new ≡ auxiliary.old) × (terminal.new ≡ terminal.old)) }
 {
@@ -205,12 +198,9 @@ pub extern "C" fn volgwain_generate(
     refusal: &mut Refusal,
     text: &mut [u8],
 ) -> u32
-    ensures answers { let E = ⟦<BabyBear4 as Over<BabyBear>>⟧.fields in
-        CallAnswers result refusal.new
-        (CallGeneratesNumbers baby_bear_positive E tables.now traces.now challenges.now
-        auxiliary.new terminal.new)
-        (IsGenerateCallRefusal baby_bear_positive E tables.now traces.now challenges.now
-        (length auxiliary.old)) }
+    ensures answers { AnswersGenerate baby_bear_positive ⟦<BabyBear4 as Over<BabyBear>>⟧.fields
+        tables.now traces.now challenges.now (length auxiliary.old) auxiliary.new terminal.new
+        result refusal.new }
     ensures kept { result ≢ 0
         → (auxiliary.new ≡ auxiliary.old) × (terminal.new ≡ terminal.old) }
 {

@@ -3,7 +3,7 @@ ghost use Rattle.std.specs.Prelude.{◌≡◌, ◌≢◌, MatchResult, length};
 ghost use Rattle.std.specs.Result.{OnErr};
 ghost use Rattle.field.specs.laws.BabyBear.{baby_bear_positive};
 ghost use Rattle.lookup_c.specs.GenerateByIds.{AnswersGenerateByIds};
-ghost use Rattle.lookup_c.specs.internal.PlannedAirs.{GeneratesByIdsInPlan, GeneratesNumbersInPlan, IsByIdsCallRefusal, IsByIdsRefusal};
+ghost use Rattle.lookup_c.specs.internal.PlannedAirs.{GeneratesByIdsInPlan, IsByIdsRefusal, ResultOfGenerateByIds};
 
 use crate::fault::Fault;
 use crate::generate::{Generated, generate_fitting, write_generated};
@@ -27,8 +27,7 @@ fn generate_tables<const P: u32, K: QuarticParameters<P>>(
     plan: &InPlan<'_>,
 ) -> Result<Generated<MontyQuartic<P, K>>, Fault>
     ensures { let E = ⟦<MontyQuartic<P, K> as Over<MontyField31<P, K>>>⟧.fields in
-        MatchResult result
-        (GeneratesByIdsInPlan K.positive E tables.now traces.now plan.now)
+        MatchResult result (GeneratesByIdsInPlan K.positive E tables.now traces.now plan.now)
         (IsByIdsRefusal K.positive E tables.now traces.now plan.now) }
 {
     let air = read_air::<P, K>(alloc, tables, traces, plan)?;
@@ -46,9 +45,8 @@ pub(crate) fn answer_generate_by_ids<const P: u32, K: QuarticParameters<P>>(
     terminal: &mut Terminal,
 ) -> Result<(), Fault>
     ensures answers { let E = ⟦<MontyQuartic<P, K> as Over<MontyField31<P, K>>>⟧.fields in
-        MatchResult result (λ _. GeneratesNumbersInPlan K.positive E tables.now traces.now plan.now
-        auxiliary.new terminal.new)
-        (IsByIdsCallRefusal K.positive E tables.now traces.now plan.now (length auxiliary.old)) }
+        ResultOfGenerateByIds K.positive E tables.now traces.now plan.now (length auxiliary.old)
+        auxiliary.new terminal.new result }
     ensures kept { OnErr result
         ((auxiliary.new ≡ auxiliary.old) × (terminal.new ≡ terminal.old)) }
 {

@@ -3,7 +3,7 @@ ghost use Rattle.std.specs.Prelude.{◌≡◌, ◌≢◌, MatchResult, length};
 ghost use Rattle.std.specs.Result.{OnErr};
 ghost use Rattle.field.specs.laws.BabyBear.{baby_bear_positive};
 ghost use Rattle.lookup_c.specs.GenerateRows.{AnswersGenerateRows};
-ghost use Rattle.lookup_c.specs.internal.PlannedAirs.{GeneratesInPlan, GeneratesRowNumbersInPlan, IsGenerationCallRefusal, IsGenerationRefusal};
+ghost use Rattle.lookup_c.specs.internal.PlannedAirs.{GeneratesInPlan, IsGenerationRefusal, ResultOfGenerateRows};
 
 use crate::fault::{Fault, lookup_fault};
 use crate::generate::traces_as_one;
@@ -32,8 +32,7 @@ fn generate_tables<const P: u32, K: QuarticParameters<P>>(
     plan: &InPlan<'_>,
 ) -> Result<(RowMajorMatrix<MontyQuartic<P, K>>, MontyQuartic<P, K>), Fault>
     ensures { let E = ⟦<MontyQuartic<P, K> as Over<MontyField31<P, K>>>⟧.fields in
-        MatchResult result
-        (GeneratesInPlan K.positive E tables.now around.now rows.now plan.now)
+        MatchResult result (GeneratesInPlan K.positive E tables.now around.now rows.now plan.now)
         (IsGenerationRefusal K.positive E tables.now around.now rows.now plan.now) }
 {
     let air = read_air::<P, K>(alloc, tables, around, plan)?;
@@ -57,10 +56,8 @@ pub(crate) fn answer_generate_rows<const P: u32, K: QuarticParameters<P>>(
     sum: &mut [u32; 4],
 ) -> Result<(), Fault>
     ensures answers { let E = ⟦<MontyQuartic<P, K> as Over<MontyField31<P, K>>>⟧.fields in
-        MatchResult result (λ _. GeneratesRowNumbersInPlan K.positive E tables.now around.now
-        rows.now plan.now auxiliary.new sum.new)
-        (IsGenerationCallRefusal K.positive E tables.now around.now rows.now plan.now
-        (length auxiliary.old)) }
+        ResultOfGenerateRows K.positive E tables.now around.now rows.now plan.now
+        (length auxiliary.old) auxiliary.new sum.new result }
     ensures kept { OnErr result ((auxiliary.new ≡ auxiliary.old) × (sum.new ≡ sum.old)) }
 {
     let (made, total) = generate_tables::<P, K>(alloc, tables, around, rows, plan)?;

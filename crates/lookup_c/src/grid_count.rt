@@ -2,8 +2,8 @@
 ghost use Rattle.std.specs.Prelude.{◌≡◌, ◌≢◌, MatchResult};
 ghost use Rattle.std.specs.Result.{OnErr};
 ghost use Rattle.field.specs.laws.BabyBear.{baby_bear_positive};
-ghost use Rattle.lookup_c.specs.GridCount.{GridCountIsNumbers, GridCountOfTables, AreGridCountNumbers, IsGridCountRefusal};
-ghost use Rattle.lookup_c.specs.CallAnswers.{CallAnswers};
+ghost use Rattle.lookup_c.specs.GridCount.{AnswersGridCount, AreGridCountNumbers, GridCountOfTables, IsGridCountRefusal};
+ghost use Rattle.lookup_c.specs.internal.Batches.{ResultOfGridCount};
 
 use crate::batch_tables::{Air, all_traces, plan_of, plan_traces};
 use crate::codes::Part;
@@ -75,9 +75,7 @@ pub(crate) fn answer_grid_count<const P: u32, K: QuarticParameters<P>>(
     grid: &mut Grid,
 ) -> Result<(), Fault>
     ensures answers { let E = ⟦<MontyQuartic<P, K> as Over<MontyField31<P, K>>>⟧.fields in
-        MatchResult result
-        (λ _. GridCountIsNumbers K.positive E airs.now traces.now alphas.now betas.now grid.new)
-        (IsGridCountRefusal K.positive E airs.now traces.now alphas.now betas.now) }
+        ResultOfGridCount K.positive E airs.now traces.now alphas.now betas.now grid.new result }
     ensures kept { OnErr result (grid.new ≡ grid.old) }
 {
     let count = count_grid::<P, K>(alloc, airs, traces, alphas, betas)?;
@@ -100,10 +98,8 @@ pub extern "C" fn volgwain_grid_count(
     refusal: &mut Refusal,
     text: &mut [u8],
 ) -> u32
-    ensures answers { let E = ⟦<BabyBear4 as Over<BabyBear>>⟧.fields in
-        CallAnswers result refusal.new
-        (GridCountIsNumbers baby_bear_positive E airs.now traces.now alphas.now betas.now grid.new)
-        (IsGridCountRefusal baby_bear_positive E airs.now traces.now alphas.now betas.now) }
+    ensures answers { AnswersGridCount baby_bear_positive ⟦<BabyBear4 as Over<BabyBear>>⟧.fields
+        airs.now traces.now alphas.now betas.now grid.new result refusal.new }
     ensures kept { result ≢ 0 → grid.new ≡ grid.old }
 {
     match answer_grid_count::<2_013_265_921, BabyBearParameters>(

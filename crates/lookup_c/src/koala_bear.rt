@@ -7,19 +7,19 @@ ghost use Rattle.field.specs.laws.KoalaBear.{koala_bear_positive};
 ghost use Rattle.lookup_c.specs.CallAnswers.{CallAnswers};
 ghost use Rattle.lookup_c.specs.DebugCheck.{DebugChecksTables, IsDebugCheckRefusal};
 ghost use Rattle.lookup_c.specs.Degrees.{CallGivesDegrees, IsDegreesRefusal};
-ghost use Rattle.lookup_c.specs.Generate.{CallGeneratesNumbers, IsGenerateCallRefusal};
+ghost use Rattle.lookup_c.specs.Generate.{AnswersGenerate};
 ghost use Rattle.lookup_c.specs.GenerateByIds.{AnswersGenerateByIds};
 ghost use Rattle.lookup_c.specs.GenerateRows.{AnswersGenerateRows};
-ghost use Rattle.lookup_c.specs.GridCount.{GridCountIsNumbers, IsGridCountRefusal};
+ghost use Rattle.lookup_c.specs.GridCount.{AnswersGridCount};
 ghost use Rattle.lookup_c.specs.Pack.{AnswersPack};
 ghost use Rattle.lookup_c.specs.Plan.{IsPlanCallRefusal, PlansNumbers};
 ghost use Rattle.lookup_c.specs.Prove.{AnswersProve};
 ghost use Rattle.lookup_c.specs.ReadJson.{AnswersReadJson};
-ghost use Rattle.lookup_c.specs.Shift.{IsShiftRefusal, ShiftsCells};
-ghost use Rattle.lookup_c.specs.SoundnessCount.{IsSoundnessCountRefusal, SoundnessCountIsNumbers};
+ghost use Rattle.lookup_c.specs.Shift.{AnswersShift};
+ghost use Rattle.lookup_c.specs.SoundnessCount.{AnswersSoundnessCount};
 ghost use Rattle.lookup_c.specs.SoundnessOfHeights.{HeightCountIsNumbers, IsSoundnessOfHeightsRefusal};
-ghost use Rattle.lookup_c.specs.Verify.{IsVerifyRefusal, VerifiesTables};
-ghost use Rattle.lookup_c.specs.VerifyRows.{CallVerifiesRows, IsVerifyRowsRefusal};
+ghost use Rattle.lookup_c.specs.Verify.{AnswersVerify};
+ghost use Rattle.lookup_c.specs.VerifyRows.{AnswersVerifyRows};
 ghost use Rattle.lookup_c.specs.WrittenTables.{table_arrays};
 
 use crate::batch_tables::Air;
@@ -108,10 +108,8 @@ pub extern "C" fn volgwain_koala_bear_verify(
     refusal: &mut Refusal,
     text: &mut [u8],
 ) -> u32
-    ensures answers { let E = ⟦<KoalaBear4 as Over<KoalaBear>>⟧.fields in
-        CallAnswers result refusal.new
-        (VerifiesTables koala_bear_positive E airs.now traces.now alpha.now beta.now witness.now)
-        (IsVerifyRefusal koala_bear_positive E airs.now traces.now alpha.now beta.now witness.now) }
+    ensures answers { AnswersVerify koala_bear_positive ⟦<KoalaBear4 as Over<KoalaBear>>⟧.fields
+        airs.now traces.now alpha.now beta.now witness.now result refusal.new }
 {
     match answer_verify::<2_130_706_433, KoalaBearParameters>(
         alloc, airs, traces, alpha, beta, witness,
@@ -150,10 +148,8 @@ pub extern "C" fn volgwain_koala_bear_soundness_count(
     refusal: &mut Refusal,
     text: &mut [u8],
 ) -> u32
-    ensures answers { let E = ⟦<KoalaBear4 as Over<KoalaBear>>⟧.fields in
-        CallAnswers result refusal.new (SoundnessCountIsNumbers koala_bear_positive E airs.now
-        traces.now counts.new)
-        (IsSoundnessCountRefusal koala_bear_positive E airs.now traces.now) }
+    ensures answers { AnswersSoundnessCount koala_bear_positive
+        ⟦<KoalaBear4 as Over<KoalaBear>>⟧.fields airs.now traces.now counts.new result refusal.new }
     ensures kept { result ≢ 0 → counts.new ≡ counts.old }
 {
     match answer_soundness_count::<2_130_706_433, KoalaBearParameters>(
@@ -196,10 +192,8 @@ pub extern "C" fn volgwain_koala_bear_grid_count(
     refusal: &mut Refusal,
     text: &mut [u8],
 ) -> u32
-    ensures answers { let E = ⟦<KoalaBear4 as Over<KoalaBear>>⟧.fields in
-        CallAnswers result refusal.new
-        (GridCountIsNumbers koala_bear_positive E airs.now traces.now alphas.now betas.now grid.new)
-        (IsGridCountRefusal koala_bear_positive E airs.now traces.now alphas.now betas.now) }
+    ensures answers { AnswersGridCount koala_bear_positive ⟦<KoalaBear4 as Over<KoalaBear>>⟧.fields
+        airs.now traces.now alphas.now betas.now grid.new result refusal.new }
     ensures kept { result ≢ 0 → grid.new ≡ grid.old }
 {
     match answer_grid_count::<2_130_706_433, KoalaBearParameters>(
@@ -222,12 +216,9 @@ pub extern "C" fn volgwain_koala_bear_generate(
     refusal: &mut Refusal,
     text: &mut [u8],
 ) -> u32
-    ensures answers { let E = ⟦<KoalaBear4 as Over<KoalaBear>>⟧.fields in
-        CallAnswers result refusal.new
-        (CallGeneratesNumbers koala_bear_positive E tables.now traces.now challenges.now
-        auxiliary.new terminal.new)
-        (IsGenerateCallRefusal koala_bear_positive E tables.now traces.now challenges.now
-        (length auxiliary.old)) }
+    ensures answers { AnswersGenerate koala_bear_positive ⟦<KoalaBear4 as Over<KoalaBear>>⟧.fields
+        tables.now traces.now challenges.now (length auxiliary.old) auxiliary.new terminal.new
+        result refusal.new }
     ensures kept { result ≢ 0
         → (auxiliary.new ≡ auxiliary.old) × (terminal.new ≡ terminal.old) }
 {
@@ -318,10 +309,9 @@ pub extern "C" fn volgwain_koala_bear_shift(
     refusal: &mut Refusal,
     text: &mut [u8],
 ) -> u32
-    ensures answers { let R = ⟦<KoalaBear4 as PrimeCharacteristicRing>⟧.ring in
-        CallAnswers result refusal.new (ShiftsCells koala_bear_positive cells.old width offset.now R
-        cells.new)
-        (IsShiftRefusal 2130706433 cells.old width offset.now) }
+    ensures answers { AnswersShift koala_bear_positive
+        ⟦<KoalaBear4 as PrimeCharacteristicRing>⟧.ring cells.old width offset.now cells.new result
+        refusal.new }
     ensures kept { result ≢ 0 → cells.new ≡ cells.old }
 {
     match answer_shift::<2_130_706_433, KoalaBearParameters>(cells, width, offset) {
@@ -345,12 +335,9 @@ pub extern "C" fn volgwain_koala_bear_verify_rows(
     refusal: &mut Refusal,
     text: &mut [u8],
 ) -> u32
-    ensures answers { let E = ⟦<KoalaBear4 as Over<KoalaBear>>⟧.fields in
-        CallAnswers result refusal.new
-        (CallVerifiesRows koala_bear_positive E tables.now around.now rows.now ids.now sizes.now
-        alpha.now beta.now witness.now)
-        (IsVerifyRowsRefusal koala_bear_positive E tables.now around.now rows.now ids.now sizes.now
-        alpha.now beta.now witness.now) }
+    ensures answers { AnswersVerifyRows koala_bear_positive ⟦<KoalaBear4 as Over<KoalaBear>>⟧.fields
+        tables.now around.now rows.now ids.now sizes.now alpha.now beta.now witness.now result
+        refusal.new }
 {
     let plan = InPlan {
         ids,

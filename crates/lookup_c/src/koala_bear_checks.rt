@@ -1,10 +1,10 @@
 //! The calls over `KoalaBear` that check one AIR, and that tell what the debug check finds.
-ghost use Rattle.std.specs.Prelude.{length, ◌≡◌, ◌≢◌};
+ghost use Rattle.std.specs.Prelude.{◌≡◌, ◌≢◌};
 ghost use Rattle.field.specs.laws.KoalaBear.{koala_bear_positive};
 ghost use Rattle.lookup_c.specs.CallAnswers.{CallAnswers};
-ghost use Rattle.lookup_c.specs.DebugNumbers.{CallTells, IsTellingRefusal};
+ghost use Rattle.lookup_c.specs.DebugNumbers.{AnswersTelling};
 ghost use Rattle.lookup_c.specs.FitFault.{CallTellsFit, IsFitCallRefusal};
-ghost use Rattle.lookup_c.specs.VerifyAir.{CallVerifiesAir, IsVerifyAirRefusal};
+ghost use Rattle.lookup_c.specs.VerifyAir.{AnswersVerifyAir};
 ghost use Rattle.lookup_c.specs.declared.debug_numbers.Asked.TheVariants.{Mismatch, Table};
 
 use crate::debug_numbers::{Asked, answer_debug_numbers};
@@ -28,10 +28,8 @@ pub extern "C" fn volgwain_koala_bear_verify_air(
     refusal: &mut Refusal,
     text: &mut [u8],
 ) -> u32
-    ensures answers { let E = ⟦<KoalaBear4 as Over<KoalaBear>>⟧.fields in
-        CallAnswers result refusal.new
-        (CallVerifiesAir koala_bear_positive E tables.now traces.now challenges.now witness.now)
-        (IsVerifyAirRefusal koala_bear_positive E tables.now traces.now challenges.now witness.now) }
+    ensures answers { AnswersVerifyAir koala_bear_positive ⟦<KoalaBear4 as Over<KoalaBear>>⟧.fields
+        tables.now traces.now challenges.now witness.now result refusal.new }
 {
     match answer_verify_air::<2_130_706_433, KoalaBearParameters>(
         alloc, tables, traces, challenges, witness,
@@ -77,10 +75,8 @@ pub extern "C" fn volgwain_koala_bear_bus_table(
     refusal: &mut Refusal,
     text: &mut [u8],
 ) -> u32
-    ensures answers { let E = ⟦<KoalaBear4 as Over<KoalaBear>>⟧.fields in
-        CallAnswers result refusal.new
-        (CallTells koala_bear_positive E Table airs.now traces.now limit numbers.old numbers.new written.new)
-        (IsTellingRefusal koala_bear_positive E Table airs.now traces.now limit (length numbers.old)) }
+    ensures answers { AnswersTelling koala_bear_positive ⟦<KoalaBear4 as Over<KoalaBear>>⟧.fields
+        Table airs.now traces.now limit numbers.old numbers.new written.new result refusal.new }
     ensures kept { result ≢ 0 → (numbers.new ≡ numbers.old) × (written.new ≡ written.old) }
 {
     match answer_debug_numbers::<2_130_706_433, KoalaBearParameters>(
@@ -112,10 +108,8 @@ pub extern "C" fn volgwain_koala_bear_mismatch(
     refusal: &mut Refusal,
     text: &mut [u8],
 ) -> u32
-    ensures answers { let E = ⟦<KoalaBear4 as Over<KoalaBear>>⟧.fields in
-        CallAnswers result refusal.new
-        (CallTells koala_bear_positive E Mismatch airs.now traces.now limit numbers.old numbers.new written.new)
-        (IsTellingRefusal koala_bear_positive E Mismatch airs.now traces.now limit (length numbers.old)) }
+    ensures answers { AnswersTelling koala_bear_positive ⟦<KoalaBear4 as Over<KoalaBear>>⟧.fields
+        Mismatch airs.now traces.now limit numbers.old numbers.new written.new result refusal.new }
     ensures kept { result ≢ 0 → (numbers.new ≡ numbers.old) × (written.new ≡ written.old) }
 {
     match answer_debug_numbers::<2_130_706_433, KoalaBearParameters>(

@@ -2,8 +2,9 @@
 ghost use Rattle.std.specs.Prelude.{◌≡◌, ◌≢◌, MatchResult};
 ghost use Rattle.std.specs.Result.{OnErr};
 ghost use Rattle.lookup.specs.Lookups.{lookups_of};
-ghost use Rattle.lookup_c.specs.Pack.{AnswersPack, IsPackRefusal, IsPackSetRefusal, CallPacksFrom, PacksIntoArrays, PacksTables};
-ghost use Rattle.lookup_c.specs.WrittenTables.{HasTableRoom, room_of_arrays, table_arrays, sizes_of_written};
+ghost use Rattle.lookup_c.specs.Pack.{AnswersPack, IsPackRefusal, IsPackSetRefusal, CallPacksFrom};
+ghost use Rattle.lookup_c.specs.WrittenTables.{table_arrays};
+ghost use Rattle.lookup_c.specs.internal.Packing.{PacksInRoom, ResultOfPack};
 
 use crate::batch_tables::set_of;
 use crate::fault::{Fault, lookup_fault};
@@ -40,8 +41,7 @@ fn pack_tables<const P: u32, K: QuarticParameters<P>>(
     room: TableSizes,
 ) -> Result<Written, Fault>
     ensures { let E = ⟦<MontyQuartic<P, K> as Over<MontyField31<P, K>>>⟧.fields in
-        MatchResult result
-        (λ w. PacksTables E tables.now max_degree w × HasTableRoom (sizes_of_written w) room)
+        MatchResult result (PacksInRoom E tables.now max_degree room)
         (IsPackRefusal E tables.now max_degree room) }
 {
     let set = set_of::<P, K>(alloc, 0, tables)?;
@@ -59,11 +59,9 @@ pub(crate) fn answer_pack<const P: u32, K: QuarticParameters<P>>(
     names: &mut [u8],
     records: &mut [Record],
 ) -> Result<TableSizes, Fault>
-    ensures answers { let E = ⟦<MontyQuartic<P, K> as Over<MontyField31<P, K>>>⟧.fields in
-        let before = table_arrays nodes.old tuples.old names.old records.old in
-        MatchResult result (PacksIntoArrays E tables.now max_degree before
-        (table_arrays nodes.new tuples.new names.new records.new))
-        (IsPackRefusal E tables.now max_degree (room_of_arrays before)) }
+    ensures answers { ResultOfPack ⟦<MontyQuartic<P, K> as Over<MontyField31<P, K>>>⟧.fields
+        tables.now max_degree (table_arrays nodes.old tuples.old names.old records.old)
+        (table_arrays nodes.new tuples.new names.new records.new) result }
     ensures kept { OnErr result ((nodes.new ≡ nodes.old) × (tuples.new ≡ tuples.old)
         × (names.new ≡ names.old) × (records.new ≡ records.old)) }
 {

@@ -64,8 +64,7 @@ fn plan_into_room<const P: u32, K: QuarticParameters<P>>(
     airs: &[Air<'_>],
     room: usize,
 ) -> Result<BatchPlan<MontyField31<P, K>>, Fault>
-    ensures { MatchResult result
-        (λ plan. IsPlanOfTables airs.now (plan_of plan)
+    ensures { MatchResult result (λ plan. IsPlanOfTables airs.now (plan_of plan)
         × (length (flat_map id_items plan.ids.items) ≡ room))
         (IsPlanCallRefusal P airs.now room) }
 {

@@ -54,9 +54,8 @@ fn challenges_of_plan<const P: u32, K: QuarticParameters<P>>(
     alpha: MontyQuartic<P, K>,
     beta: MontyQuartic<P, K>,
 ) -> Result<Challenges<MontyQuartic<P, K>>, Fault>
-    ensures { MatchResult result
-        (ArePlannedChallenges ⟦<MontyQuartic<P, K> as PrimeCharacteristicRing>⟧.ring ids.now
-        sizes.now alpha beta)
+    ensures { let R = ⟦<MontyQuartic<P, K> as PrimeCharacteristicRing>⟧.ring in
+        MatchResult result (ArePlannedChallenges R ids.now sizes.now alpha beta)
         (IsPlannedIdsRefusal ids.now sizes.now) }
 {
     let width = sizes.max_message_width;
@@ -77,9 +76,8 @@ pub(crate) fn read_air<const P: u32, K: QuarticParameters<P>>(
     traces: &Traces<'_>,
     plan: &InPlan<'_>,
 ) -> Result<PlannedAir<MontyField31<P, K>, MontyQuartic<P, K>>, Fault>
-    ensures { MatchResult result
-        (IsRead K.positive ⟦<MontyQuartic<P, K> as PrimeCharacteristicRing>⟧.ring tables.now
-        traces.now plan.now)
+    ensures { let R = ⟦<MontyQuartic<P, K> as PrimeCharacteristicRing>⟧.ring in
+        MatchResult result (IsRead K.positive R tables.now traces.now plan.now)
         (IsReadRefusal K.positive tables.now traces.now plan.now) }
 {
     let lookups = lookups_of::<P, K>(alloc, 0, tables)?;

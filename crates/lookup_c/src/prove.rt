@@ -2,7 +2,8 @@
 ghost use Rattle.std.specs.Prelude.{◌≡◌, ◌≢◌, MatchResult, length};
 ghost use Rattle.std.specs.Result.{OnErr};
 ghost use Rattle.field.specs.laws.BabyBear.{baby_bear_positive};
-ghost use Rattle.lookup_c.specs.Prove.{AnswersProve, HasProveRoom, IsProveCallRefusal, IsProveRefusal, IsProveRoomRefusal, ProvesNumbers, ProvesTables};
+ghost use Rattle.lookup_c.specs.Prove.{AnswersProve, HasProveRoom, IsProveRefusal, IsProveRoomRefusal, ProvesTables};
+ghost use Rattle.lookup_c.specs.internal.Batches.{ResultOfProve, ResultOfProveInRoom};
 
 use crate::batch_tables::{Air, all_traces, plan_of, plan_traces};
 use crate::codes::Part;
@@ -79,10 +80,8 @@ fn prove_into_room<const P: u32, K: QuarticParameters<P>>(
     terminals: usize,
 ) -> Result<Witness<MontyQuartic<P, K>>, Fault>
     ensures { let E = ⟦<MontyQuartic<P, K> as Over<MontyField31<P, K>>>⟧.fields in
-        MatchResult result
-        (λ w. ProvesTables K.positive E airs.now traces.now alpha.now beta.now w
-        × HasProveRoom w cells terminals)
-        (IsProveCallRefusal K.positive E airs.now traces.now alpha.now beta.now cells terminals) }
+        ResultOfProveInRoom K.positive E airs.now traces.now alpha.now beta.now cells terminals
+        result }
 {
     let witness = prove_tables::<P, K>(alloc, airs, traces, alpha, beta)?;
     check_room(&witness, cells, terminals)?;
@@ -100,10 +99,8 @@ pub(crate) fn answer_prove<const P: u32, K: QuarticParameters<P>>(
     terminals: &mut [Terminal],
 ) -> Result<(), Fault>
     ensures answers { let E = ⟦<MontyQuartic<P, K> as Over<MontyField31<P, K>>>⟧.fields in
-        MatchResult result (λ _. ProvesNumbers K.positive E airs.now traces.now alpha.now beta.now
-        auxiliary.new terminals.new)
-        (IsProveCallRefusal K.positive E airs.now traces.now alpha.now beta.now
-        (length auxiliary.old) (length terminals.old)) }
+        ResultOfProve K.positive E airs.now traces.now alpha.now beta.now (length auxiliary.old)
+        (length terminals.old) auxiliary.new terminals.new result }
     ensures kept { OnErr result
         ((auxiliary.new ≡ auxiliary.old) × (terminals.new ≡ terminals.old)) }
 {

@@ -2,8 +2,9 @@
 ghost use Rattle.std.specs.Prelude.{◌≡◌, ◌≢◌, MatchResult};
 ghost use Rattle.std.specs.Result.{OnErr};
 ghost use Rattle.std.specs.Str.{IsUtf8};
-ghost use Rattle.lookup_c.specs.ReadJson.{AnswersReadJson, IsReadJsonRefusal, IsJsonRefusal, IsJsonTextRefusal, ReadsJsonIntoArrays, ReadsJsonTables};
-ghost use Rattle.lookup_c.specs.WrittenTables.{HasTableRoom, room_of_arrays, table_arrays, sizes_of_written};
+ghost use Rattle.lookup_c.specs.ReadJson.{AnswersReadJson, IsReadJsonRefusal, IsJsonRefusal, IsJsonTextRefusal, ReadsJsonTables};
+ghost use Rattle.lookup_c.specs.WrittenTables.{HasTableRoom, table_arrays, sizes_of_written};
+ghost use Rattle.lookup_c.specs.internal.Packing.{ResultOfReadJson};
 
 use crate::fault::Fault;
 use crate::refusal::{Refusal, accept, refuse};
@@ -69,10 +70,9 @@ pub(crate) fn answer_read_json<const P: u32, K: QuarticParameters<P>>(
     names: &mut [u8],
     records: &mut [Record],
 ) -> Result<TableSizes, Fault>
-    ensures answers { let before = table_arrays nodes.old tuples.old names.old records.old in
-        MatchResult result (ReadsJsonIntoArrays P json.now before
-        (table_arrays nodes.new tuples.new names.new records.new))
-        (IsReadJsonRefusal P json.now (room_of_arrays before)) }
+    ensures answers { ResultOfReadJson P json.now
+        (table_arrays nodes.old tuples.old names.old records.old)
+        (table_arrays nodes.new tuples.new names.new records.new) result }
     ensures kept { OnErr result ((nodes.new ≡ nodes.old) × (tuples.new ≡ tuples.old)
         × (names.new ≡ names.old) × (records.new ≡ records.old)) }
 {

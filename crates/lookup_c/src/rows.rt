@@ -29,8 +29,7 @@ pub(crate) fn range_of<const P: u32, K: QuarticParameters<P>>(
     rows: &Rows,
     around: &ReadTraces<MontyField31<P, K>>,
 ) -> Result<RowRange, Fault>
-    ensures { MatchResult result
-        (λ range. (range ≡ range_of rows.now)
+    ensures { MatchResult result (λ range. (range ≡ range_of rows.now)
         × HasCallRowsAround rows.now (view_of_read around.now))
         (IsRowsRefusal rows.now (view_of_read around.now)) }
 {

@@ -4,8 +4,7 @@ ghost use Rattle.std.specs.Result.{OnErr};
 ghost use Rattle.field.specs.laws.BabyBear.{baby_bear_positive};
 ghost use Rattle.matrix.specs.Matrix.{IsShaped};
 ghost use Rattle.lookup_tables.specs.Numbers.{AreNumberGroupsBelow, IsFirstLargeNumberGroup};
-ghost use Rattle.lookup_c.specs.CallAnswers.{CallAnswers};
-ghost use Rattle.lookup_c.specs.Shift.{IsShiftRefusal, ShiftsCells, shift_rows, shifted_cells};
+ghost use Rattle.lookup_c.specs.Shift.{AnswersShift, IsShiftRefusal, ShiftsCells, shift_rows, shifted_cells};
 ghost use Rattle.lookup_c.specs.internal.Shift.{AreShiftable};
 
 use crate::codes::Part;
@@ -114,10 +113,9 @@ pub extern "C" fn volgwain_shift(
     refusal: &mut Refusal,
     text: &mut [u8],
 ) -> u32
-    ensures answers { let R = ⟦<BabyBear4 as PrimeCharacteristicRing>⟧.ring in
-        CallAnswers result refusal.new (ShiftsCells baby_bear_positive cells.old width offset.now R
-        cells.new)
-        (IsShiftRefusal 2013265921 cells.old width offset.now) }
+    ensures answers { AnswersShift baby_bear_positive
+        ⟦<BabyBear4 as PrimeCharacteristicRing>⟧.ring cells.old width offset.now cells.new result
+        refusal.new }
     ensures kept { result ≢ 0 → cells.new ≡ cells.old }
 {
     match answer_shift::<2_013_265_921, BabyBearParameters>(cells, width, offset) {

@@ -2,8 +2,7 @@
 ghost use Rattle.std.specs.Prelude.{◌≡◌, ◌≢◌, MatchResult};
 ghost use Rattle.std.specs.Result.{OnErr};
 ghost use Rattle.field.specs.laws.BabyBear.{baby_bear_positive};
-ghost use Rattle.lookup_c.specs.CallAnswers.{CallAnswers};
-ghost use Rattle.lookup_c.specs.SoundnessCount.{AreSoundnessCountNumbers, SoundnessCountIsNumbers, SoundnessCountOfTables, IsLinearCountBound, IsSoundnessCountRefusal};
+ghost use Rattle.lookup_c.specs.SoundnessCount.{AnswersSoundnessCount, AreSoundnessCountNumbers, IsLinearCountBound, IsSoundnessCountRefusal, SoundnessCountIsNumbers, SoundnessCountOfTables};
 
 use crate::batch_tables::{Air, all_traces, plan_of, plan_traces};
 use crate::fault::Fault;
@@ -82,9 +81,8 @@ pub(crate) fn answer_soundness_count<const P: u32, K: QuarticParameters<P>>(
     counts: &mut Counts,
 ) -> Result<(), Fault>
     ensures answers { let E = ⟦<MontyQuartic<P, K> as Over<MontyField31<P, K>>>⟧.fields in
-        MatchResult result
-        (λ _. SoundnessCountIsNumbers K.positive E airs.now traces.now counts.new)
-        (IsSoundnessCountRefusal K.positive E airs.now traces.now) }
+        MatchResult result (λ _. SoundnessCountIsNumbers K.positive E airs.now traces.now
+        counts.new) (IsSoundnessCountRefusal K.positive E airs.now traces.now) }
     ensures kept { OnErr result (counts.new ≡ counts.old) }
 {
     let count = count_messages::<P, K>(alloc, airs, traces)?;
@@ -105,10 +103,8 @@ pub extern "C" fn volgwain_soundness_count(
     refusal: &mut Refusal,
     text: &mut [u8],
 ) -> u32
-    ensures answers { let E = ⟦<BabyBear4 as Over<BabyBear>>⟧.fields in
-        CallAnswers result refusal.new (SoundnessCountIsNumbers baby_bear_positive E airs.now
-        traces.now counts.new)
-        (IsSoundnessCountRefusal baby_bear_positive E airs.now traces.now) }
+    ensures answers { AnswersSoundnessCount baby_bear_positive
+        ⟦<BabyBear4 as Over<BabyBear>>⟧.fields airs.now traces.now counts.new result refusal.new }
     ensures kept { result ≢ 0 → counts.new ≡ counts.old }
 {
     match answer_soundness_count::<2_013_265_921, BabyBearParameters>(alloc, airs, traces, counts) {

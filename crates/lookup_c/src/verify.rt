@@ -1,8 +1,7 @@
 //! The call of a verifier on the plan of a batch.
-ghost use Rattle.std.specs.Prelude.{◌≡◌, ◌≢◌, MatchResult};
 ghost use Rattle.field.specs.laws.BabyBear.{baby_bear_positive};
-ghost use Rattle.lookup_c.specs.CallAnswers.{CallAnswers};
-ghost use Rattle.lookup_c.specs.Verify.{IsVerifyRefusal, VerifiesTables};
+ghost use Rattle.lookup_c.specs.Verify.{AnswersVerify};
+ghost use Rattle.lookup_c.specs.internal.Batches.{ResultOfVerify};
 
 use crate::batch_tables::{Air, all_traces, plan_of, plan_traces};
 use crate::codes::Part;
@@ -29,9 +28,7 @@ pub(crate) fn answer_verify<const P: u32, K: QuarticParameters<P>>(
     witness: &[AirWitness<'_>],
 ) -> Result<(), Fault>
     ensures { let E = ⟦<MontyQuartic<P, K> as Over<MontyField31<P, K>>>⟧.fields in
-        MatchResult result
-        (λ _. VerifiesTables K.positive E airs.now traces.now alpha.now beta.now witness.now)
-        (IsVerifyRefusal K.positive E airs.now traces.now alpha.now beta.now witness.now) }
+        ResultOfVerify K.positive E airs.now traces.now alpha.now beta.now witness.now result }
 {
     let plan = plan_of::<P, K>(alloc, airs)?;
     let all = all_traces::<P, K>(alloc, traces)?;
@@ -58,10 +55,8 @@ pub extern "C" fn volgwain_verify(
     refusal: &mut Refusal,
     text: &mut [u8],
 ) -> u32
-    ensures answers { let E = ⟦<BabyBear4 as Over<BabyBear>>⟧.fields in
-        CallAnswers result refusal.new
-        (VerifiesTables baby_bear_positive E airs.now traces.now alpha.now beta.now witness.now)
-        (IsVerifyRefusal baby_bear_positive E airs.now traces.now alpha.now beta.now witness.now) }
+    ensures answers { AnswersVerify baby_bear_positive ⟦<BabyBear4 as Over<BabyBear>>⟧.fields
+        airs.now traces.now alpha.now beta.now witness.now result refusal.new }
 {
     match answer_verify::<2_013_265_921, BabyBearParameters>(
         alloc, airs, traces, alpha, beta, witness,

@@ -1,12 +1,11 @@
 //! The call of a verifier on one AIR, under challenges that are given for each lookup.
-ghost use Rattle.std.specs.Prelude.{◌≡◌, ◌≤◌, ◌*◌, MatchResult, length};
+ghost use Rattle.std.specs.Prelude.{◌≤◌, ◌*◌, MatchResult, length};
 ghost use Rattle.field.specs.laws.BabyBear.{baby_bear_positive};
-ghost use Rattle.lookup_c.specs.CallAnswers.{CallAnswers};
 ghost use Rattle.lookup_c.specs.Generate.{GenerateFits};
 ghost use Rattle.lookup_c.specs.Inputs.{view_of_read};
-ghost use Rattle.lookup_c.specs.VerifyAir.{CallVerifiesAir, IsFirstUnsatisfied, IsVerifiedOver, IsVerifyAirRefusal, IsVerifyOverRefusal};
+ghost use Rattle.lookup_c.specs.VerifyAir.{AnswersVerifyAir};
 ghost use Rattle.lookup_c.specs.internal.Faults.{IsCheckFault};
-ghost use Rattle.lookup_model.specs.Witness.{IsSatisfied};
+ghost use Rattle.lookup_c.specs.internal.VerifyAir.{IsUnsatisfiedReadRefusal, IsVerifyReadRefusal, ResultOfVerifyAir, SatisfiesRead, VerifiesRead};
 
 use crate::codes::Part;
 use crate::fault::Fault;
@@ -52,11 +51,8 @@ fn check_air<const P: u32, K: QuarticParameters<P>>(
     requires fit { GenerateFits (view_of_read traces.now) lookups.now }
     requires challenges { 2 * length lookups.now ≤ length challenges.now }
     ensures { let E = ⟦<MontyQuartic<P, K> as Over<MontyField31<P, K>>>⟧.fields in
-        MatchResult result
-        (λ _. IsSatisfied E (view_of_read traces.now) lookups.now challenges.now
-        result_of.now.auxiliary result_of.now.terminal)
-        (IsFirstUnsatisfied E (view_of_read traces.now) lookups.now challenges.now
-        (result_of.now.auxiliary, result_of.now.terminal)) }
+        MatchResult result (λ _. SatisfiesRead E traces.now lookups.now challenges.now
+        result_of.now) (IsUnsatisfiedReadRefusal E traces.now lookups.now challenges.now result_of.now) }
 {
     let one = traces_as_one(traces);
     let (auxiliary, terminal) = (&result_of.auxiliary, &result_of.terminal);
@@ -78,11 +74,8 @@ fn verify_read<const P: u32, K: QuarticParameters<P>>(
     result_of: &ReadResult<MontyQuartic<P, K>>,
 ) -> Result<(), Fault>
     ensures { let E = ⟦<MontyQuartic<P, K> as Over<MontyField31<P, K>>>⟧.fields in
-        MatchResult result
-        (λ _. IsVerifiedOver E (view_of_read traces.now) lookups.now challenges.now
-        (result_of.now.auxiliary, result_of.now.terminal))
-        (IsVerifyOverRefusal E (view_of_read traces.now) lookups.now challenges.now
-        (result_of.now.auxiliary, result_of.now.terminal)) }
+        MatchResult result (λ _. VerifiesRead E traces.now lookups.now challenges.now
+        result_of.now) (IsVerifyReadRefusal E traces.now lookups.now challenges.now result_of.now) }
 {
     check_fit(traces, lookups)?;
     check_enough(lookups, challenges)?;
@@ -103,9 +96,7 @@ pub(crate) fn answer_verify_air<const P: u32, K: QuarticParameters<P>>(
     witness: &AirWitness<'_>,
 ) -> Result<(), Fault>
     ensures { let E = ⟦<MontyQuartic<P, K> as Over<MontyField31<P, K>>>⟧.fields in
-        MatchResult result
-        (λ _. CallVerifiesAir K.positive E tables.now traces.now challenges.now witness.now)
-        (IsVerifyAirRefusal K.positive E tables.now traces.now challenges.now witness.now) }
+        ResultOfVerifyAir K.positive E tables.now traces.now challenges.now witness.now result }
 {
     let lookups = lookups_of::<P, K>(alloc, 0, tables)?;
     let read = traces_of::<P, K>(alloc, 0, traces)?;
@@ -136,10 +127,8 @@ pub extern "C" fn volgwain_verify_air(
     refusal: &mut Refusal,
     text: &mut [u8],
 ) -> u32
-    ensures answers { let E = ⟦<BabyBear4 as Over<BabyBear>>⟧.fields in
-        CallAnswers result refusal.new
-        (CallVerifiesAir baby_bear_positive E tables.now traces.now challenges.now witness.now)
-        (IsVerifyAirRefusal baby_bear_positive E tables.now traces.now challenges.now witness.now) }
+    ensures answers { AnswersVerifyAir baby_bear_positive ⟦<BabyBear4 as Over<BabyBear>>⟧.fields
+        tables.now traces.now challenges.now witness.now result refusal.new }
 {
     match answer_verify_air::<2_013_265_921, BabyBearParameters>(
         alloc, tables, traces, challenges, witness,

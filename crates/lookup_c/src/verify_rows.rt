@@ -1,11 +1,10 @@
 //! The call of a verifier on a range of the rows of one AIR.
-ghost use Rattle.std.specs.Prelude.{◌≡◌, MatchResult};
+ghost use Rattle.std.specs.Prelude.{◌≡◌};
 ghost use Rattle.field.specs.laws.BabyBear.{baby_bear_positive};
 ghost use Rattle.lookup_model.specs.Batches.Instances.{instance_of};
-ghost use Rattle.lookup_c.specs.CallAnswers.{CallAnswers};
 ghost use Rattle.lookup_c.specs.Inputs.{view_of_read};
-ghost use Rattle.lookup_c.specs.VerifyRows.{IsVerifyRowsRefusal, CallVerifiesRows, instance_with_ids};
-ghost use Rattle.lookup_c.specs.internal.PlannedAirs.{IsVerificationRefusal, VerifiesInPlan};
+ghost use Rattle.lookup_c.specs.VerifyRows.{AnswersVerifyRows, instance_with_ids};
+ghost use Rattle.lookup_c.specs.internal.PlannedAirs.{ResultOfVerifyRows};
 
 use crate::fault::Fault;
 use crate::plan::PlanSizes;
@@ -53,9 +52,7 @@ pub(crate) fn answer_verify_rows<const P: u32, K: QuarticParameters<P>>(
     witness: &AirWitness<'_>,
 ) -> Result<(), Fault>
     ensures { let E = ⟦<MontyQuartic<P, K> as Over<MontyField31<P, K>>>⟧.fields in
-        MatchResult result
-        (λ _. VerifiesInPlan K.positive E tables.now around.now rows.now plan.now witness.now)
-        (IsVerificationRefusal K.positive E tables.now around.now rows.now plan.now witness.now) }
+        ResultOfVerifyRows K.positive E tables.now around.now rows.now plan.now witness.now result }
 {
     let air = read_air::<P, K>(alloc, tables, around, plan)?;
     let range = range_of(rows, &air.traces)?;
@@ -94,12 +91,9 @@ pub extern "C" fn volgwain_verify_rows(
     refusal: &mut Refusal,
     text: &mut [u8],
 ) -> u32
-    ensures answers { let E = ⟦<BabyBear4 as Over<BabyBear>>⟧.fields in
-        CallAnswers result refusal.new
-        (CallVerifiesRows baby_bear_positive E tables.now around.now rows.now ids.now sizes.now
-        alpha.now beta.now witness.now)
-        (IsVerifyRowsRefusal baby_bear_positive E tables.now around.now rows.now ids.now sizes.now
-        alpha.now beta.now witness.now) }
+    ensures answers { AnswersVerifyRows baby_bear_positive ⟦<BabyBear4 as Over<BabyBear>>⟧.fields
+        tables.now around.now rows.now ids.now sizes.now alpha.now beta.now witness.now result
+        refusal.new }
 {
     let plan = InPlan {
         ids,

@@ -1,5 +1,5 @@
 -- Calls on an AIR of a planned batch, whose ids, sizes and challenges are one value of the program.
-use Rattle.std.specs.Prelude.{◌<◌, ◌≡◌, ℕ, List}
+use Rattle.std.specs.Prelude.{◌<◌, ◌≡◌, ℕ, List, MatchResult, Result}
 use Rattle.field.specs.Residue.{Residue}
 use Rattle.field.specs.Extension.{Extension}
 use Rattle.field.specs.Quartic.{Quartic}
@@ -41,13 +41,11 @@ module _ {p : ℕ} (positive : 0 < p) (E : Extension (Residue p) (Quartic (Resid
   abbrev pub IsByIdsRefusal : Fault → Type 0
   IsByIdsRefusal = by_ids.IsGenerateByIdsRefusal positive E tables traces plan.ids.now plan.sizes.now plan.alpha.now plan.beta.now
 
-  -- the numbers of what is generated
-  abbrev pub GeneratesNumbersInPlan : List (List ℕ) → Terminal → Type 0
-  GeneratesNumbersInPlan = by_ids.GeneratesNumbersByIds positive E tables traces plan.ids.now plan.sizes.now plan.alpha.now plan.beta.now
-
-  -- the refusal of a call with room for so many cells
-  abbrev pub IsByIdsCallRefusal : ℕ → Fault → Type 0
-  IsByIdsCallRefusal = by_ids.IsGenerateByIdsCallRefusal positive E tables traces plan.ids.now plan.sizes.now plan.alpha.now plan.beta.now
+  -- the result of a call with room for so many cells: the numbers of what is generated, or its refusal
+  abbrev pub ResultOfGenerateByIds : ℕ → List (List ℕ) → Terminal → Result (Unit {0}) Fault → Type 0
+  ResultOfGenerateByIds room cells ending result =
+      MatchResult result (λ _. by_ids.GeneratesNumbersByIds positive E tables traces plan.ids.now plan.sizes.now plan.alpha.now plan.beta.now cells ending)
+      (by_ids.IsGenerateByIdsCallRefusal positive E tables traces plan.ids.now plan.sizes.now plan.alpha.now plan.beta.now room)
 
 module _ {p : ℕ} (positive : 0 < p) (E : Extension (Residue p) (Quartic (Residue p))) (tables : Tables) (around : Traces) (rows : Rows) (plan : InPlan) where
   -- the rows of a range are generated
@@ -58,18 +56,14 @@ module _ {p : ℕ} (positive : 0 < p) (E : Extension (Residue p) (Quartic (Resid
   abbrev pub IsGenerationRefusal : Fault → Type 0
   IsGenerationRefusal = generation.IsGenerateRowsRefusal positive E tables around rows plan.ids.now plan.sizes.now plan.alpha.now plan.beta.now
 
-  -- the numbers of these rows
-  abbrev pub GeneratesRowNumbersInPlan : List (List ℕ) → List ℕ → Type 0
-  GeneratesRowNumbersInPlan = generation.GeneratesRowNumbers positive E tables around rows plan.ids.now plan.sizes.now plan.alpha.now plan.beta.now
+  -- the result of a call with room for so many cells: the numbers of these rows, or its refusal
+  abbrev pub ResultOfGenerateRows : ℕ → List (List ℕ) → List ℕ → Result (Unit {0}) Fault → Type 0
+  ResultOfGenerateRows room cells total result =
+      MatchResult result (λ _. generation.GeneratesRowNumbers positive E tables around rows plan.ids.now plan.sizes.now plan.alpha.now plan.beta.now cells total)
+      (generation.IsGenerateRowsCallRefusal positive E tables around rows plan.ids.now plan.sizes.now plan.alpha.now plan.beta.now room)
 
-  -- the refusal of a call with room for so many cells
-  abbrev pub IsGenerationCallRefusal : ℕ → Fault → Type 0
-  IsGenerationCallRefusal = generation.IsGenerateRowsCallRefusal positive E tables around rows plan.ids.now plan.sizes.now plan.alpha.now plan.beta.now
-
-  -- the rows of a range are verified
-  abbrev pub VerifiesInPlan : AirWitness → Type 0
-  VerifiesInPlan = verification.CallVerifiesRows positive E tables around rows plan.ids.now plan.sizes.now plan.alpha.now plan.beta.now
-
-  -- or refused
-  abbrev pub IsVerificationRefusal : AirWitness → Fault → Type 0
-  IsVerificationRefusal = verification.IsVerifyRowsRefusal positive E tables around rows plan.ids.now plan.sizes.now plan.alpha.now plan.beta.now
+  -- the rows of a range are verified, or refused
+  abbrev pub ResultOfVerifyRows : AirWitness → Result (Unit {0}) Fault → Type 0
+  ResultOfVerifyRows numbers result =
+      MatchResult result (λ _. verification.CallVerifiesRows positive E tables around rows plan.ids.now plan.sizes.now plan.alpha.now plan.beta.now numbers)
+      (verification.IsVerifyRowsRefusal positive E tables around rows plan.ids.now plan.sizes.now plan.alpha.now plan.beta.now numbers)
