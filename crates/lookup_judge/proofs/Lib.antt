@@ -10,5 +10,6 @@ pub mod PackingLaws
 pub mod RunRefusalLaws
 pub mod SharedLaws
 pub mod SizeLaws
+pub mod TellLaws
 pub mod TupleLaws
 pub mod VerdictLaws

@@ -6,4 +6,5 @@ pub mod RunRefusals
 pub mod Runs
 pub mod Said
 pub mod Sharing
+pub mod Told
 pub mod internal

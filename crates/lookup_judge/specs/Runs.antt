@@ -39,6 +39,7 @@ use Rattle.witness_text.specs.Lines.{IsTextOf, witness_lines}
 use Rattle.lookup_judge.specs.Bits.{MeetsTarget, alphas_of, challenges_of}
 use Rattle.lookup_judge.specs.Found.{IsFound, IsPlanFound, IsPlanOf, sized_of, sized_over}
 use Rattle.lookup_judge.specs.Said.{AreLookupsOf, AreSaid, SayOver, airs_of}
+use Rattle.lookup_judge.specs.Told.{AppendsFront, refusal_text, unwritten_line}
 use Rattle.lookup_judge.specs.declared.program.Answer.{Answer}
 use Rattle.lookup_judge.specs.declared.refusal.RunRefusal.{RunRefusal}
 use Rattle.lookup_judge.specs.declared.report.PlanReport.{PlanReport}
@@ -186,17 +187,22 @@ module _
     AnswersTo (Batch request) text files witness answer = AnswersIn request.field request.task text files witness answer
     AnswersTo (Bits request) text files witness answer = IsTrue answer.yes ↔ MeetsTarget (challenges_of request.field) request.target (request.width * (request.unbalanced - 1)) (alphas_of request.messages request.unbalanced)
 
-    -- The answer to the words of a command line: to what they ask for, or the help that they ask for, which is yes.
+    -- The answer to the words of a command line: to what they ask for, or the help that they ask for, and then it is yes.
     abbrev pub IsAnswer : List (List ℕ) → List ℕ → List File → List ℕ → Answer → Type 0
     IsAnswer words text files witness answer =
         (names : Names) × HasFieldNames names
         × (((asked : Asked) × IsAsked (line_app names) words asked × AnswersTo asked text files witness answer)
         ⊎ ((help : String Global) × IsRefused (line_app names) words (Help help) × (answer.yes ≡ true)))
 
--- The status of a run, and what becomes of its outputs. An answer is written whole, with status 0 if it is
--- yes and 1 if not, and nothing to the errors; or the status is 2. A refusal has status 2, and leaves
--- the output as it was.
-abbrev pub Ends : {W E : Type 0} → (W → Option (List ℕ)) → Result Answer RunRefusal → ℕ → W → W → E → E → Type 0
-Ends contents answer status output output_after errors errors_after = MatchResult answer
-    (λ a. ((status ≡ cond a.yes 0 1) × Appends (contents output) (contents output_after) a.text.items × (errors_after ≡ errors)) ⊎ (status ≡ 2))
-    (λ _. (status ≡ 2) × (output_after ≡ output))
+-- The status of a run, and what becomes of its outputs. An answer is written whole, with status 0 if it is yes and 1 if
+-- not, and nothing to the errors; or the status is 2, a front of the answer is written, and to the errors a front of the
+-- line that it cannot be written. A refusal has status 2, leaves the output as it was, and a front of its text is written
+-- to the errors. A front may be empty or all of a text.
+abbrev pub Ends : {W E : Type 0} → (W → Option (List ℕ)) → (E → Option (List ℕ)) → Result Answer RunRefusal → ℕ → W → W → E → E → Type 0
+Ends contents contents_of_errors answer status output output_after errors errors_after = MatchResult answer
+    (λ a.
+    ((status ≡ cond a.yes 0 1) × Appends (contents output) (contents output_after) a.text.items × (errors_after ≡ errors))
+    ⊎ ((status ≡ 2)
+    × AppendsFront (contents output) (contents output_after) a.text.items
+    × AppendsFront (contents_of_errors errors) (contents_of_errors errors_after) unwritten_line))
+    (λ e. (status ≡ 2) × (output_after ≡ output) × AppendsFront (contents_of_errors errors) (contents_of_errors errors_after) (refusal_text e))

@@ -2,3 +2,4 @@
 pub mod Airs
 pub mod Opened
 pub mod Sharing
+pub mod Told

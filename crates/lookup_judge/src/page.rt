@@ -1,5 +1,6 @@
 //! Text that grows, and lines whose cells stand below each other.
-ghost use Rattle.std.specs.Prelude.{◌≡◌, ◌++◌, [], OnOk};
+ghost use Rattle.std.specs.Prelude.{◌≡◌, ◌++◌, [], OnOk, map};
+ghost use Rattle.lookup_judge.specs.Told.{shown_byte};
 
 use std::alloc::{AllocError, Global};
 
@@ -33,7 +34,10 @@ impl Page {
     }
 
     /// Appends bytes of a file, each control character as a question mark.
-    pub(crate) fn shown(&mut self, bytes: &[u8]) -> Result<(), AllocError> {
+    pub(crate) fn shown(&mut self, bytes: &[u8]) -> Result<(), AllocError>
+        ensures { OnOk result (self.new.bytes.items
+            ≡ self.old.bytes.items ++ map shown_byte bytes.now) }
+    {
         for byte in bytes {
             self.bytes.push(shown_byte(*byte))?;
         }
@@ -106,7 +110,9 @@ impl Page {
 }
 
 /// A byte as it is shown.
-fn shown_byte(byte: u8) -> u8 {
+fn shown_byte(byte: u8) -> u8
+    ensures { result ≡ shown_byte byte }
+{
     if byte < 32 || byte == 127 { b'?' } else { byte }
 }
 

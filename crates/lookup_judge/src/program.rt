@@ -1,5 +1,5 @@
 //! A run of the program, from its words and files to its status.
-ghost use Rattle.std.specs.Prelude.{◌≡◌, ◌⊎◌, ◌↔◌, ◌-◌, ◌*◌, IsTrue, MatchResult, OnOk, Result, cond, map, true};
+ghost use Rattle.std.specs.Prelude.{◌≡◌, ◌⊎◌, ◌↔◌, ◌-◌, ◌*◌, IsTrue, MatchResult, Result, cond, map, true};
 ghost use Rattle.std.specs.Io.KnownBytes.{Appends};
 ghost use Rattle.std.specs.Process.{exit_status};
 ghost use Rattle.std.specs.String.{string_bytes};
@@ -7,6 +7,8 @@ ghost use Rattle.lookup_files.specs.Files.{named_of};
 ghost use Rattle.lookup_judge.specs.Bits.{MeetsTarget, alphas_of, challenges_of};
 ghost use Rattle.lookup_judge.specs.RunRefusals.{IsAskedRefused, IsRefusedIn, IsRunRefusal};
 ghost use Rattle.lookup_judge.specs.Runs.{AnswersIn, AnswersTo, Ends, IsAnswer};
+ghost use Rattle.lookup_judge.specs.Told.{AppendsFront, refusal_text, unwritten_line};
+ghost use Rattle.lookup_judge.specs.internal.Told.{TellsWords, WritesFront};
 
 use crate::bits::{Deceiving, push_bits_table, push_target};
 use crate::commands::{Given, answer_over};
@@ -19,8 +21,7 @@ use goldilocks::{Goldilocks, Goldilocks2};
 use lookup_files::NamedFile;
 use lookup_words::{Asked, BatchRequest, BitsRequest, FieldName, WordsRefusal, asked};
 use std::alloc::Global;
-use std::io;
-use std::io::Write;
+use std::io::{ErrorKind, Write};
 use std::process::ExitCode;
 
 /// The bytes of the files that a run reads.
@@ -57,11 +58,12 @@ impl Answer {
 /// `lookup_words::asked`.
 ///
 /// Writes the answer to `output`. If the run is refused, it writes why to `errors`, and nothing to
-/// `output`; so it does if the answer cannot be written, of which a part may be in `output`. The
-/// status is 0 if the answer is yes, 1 if it is no, and 2 if the run is refused or a write fails. The
-/// answer to `check` is whether all messages balance, to `plan` and `bits` whether
-/// as many bits are left as are wanted, to `accept` whether the witness is accepted, and to `any`
-/// whether any is; to the other commands it is yes.
+/// `output`. If the answer cannot be written, of which a part may be in `output`, it writes that to
+/// `errors`. Of either text a front is written there: all of it, unless a write fails, which is tested.
+/// The status is 0 if the answer is yes, 1 if it is no, and 2 if the run is refused or a write fails.
+/// The answer to `check` is whether all messages balance, to `plan` and `bits` whether as many bits are
+/// left as are wanted, to `accept` whether the witness is accepted, and to `any` whether any is; to the
+/// other commands it is yes.
 pub fn run<W: Write, E: Write>(
     alloc: Global,
     words: &[String],
@@ -79,7 +81,8 @@ pub fn run<W: Write, E: Write>(
         (answer : Result Answer RunRefusal)
         × MatchResult answer (IsAnswer S B K G said text files inputs.entry.witness.now)
         (IsRunRefusal S B K G said text files)
-        × Ends W.contents answer (exit_status result) output.old output.new errors.old errors.new }
+        × Ends W.contents E.contents answer (exit_status result) output.old output.new errors.old
+        errors.new }
 {
     match answer_of(alloc, words, inputs) {
         Ok(answer) => write_answer(&answer, output, errors),
@@ -87,13 +90,14 @@ pub fn run<W: Write, E: Write>(
     }
 }
 
-/// Writes why a run is refused to `errors`. The status is 2, whether or not this could be written.
+/// Writes to `errors` why a run is refused, as far as that can be written. The status is 2.
 pub fn refuse<E: Write>(refusal: RunRefusal, errors: &mut E) -> ExitCode
-    ensures { exit_status result ≡ 2 }
+    ensures { (exit_status result ≡ 2)
+        × AppendsFront (E.contents errors.old) (E.contents errors.new) (refusal_text refusal) }
 {
     let _ = match refusal {
-        RunRefusal::Memory => errors.write_all(b"error: out of memory\n"),
-        RunRefusal::Told(lines) => errors.write_all(lines.as_slice()),
+        RunRefusal::Memory => write_front("error: out of memory\n".as_bytes(), errors),
+        RunRefusal::Told(lines) => write_front(lines.as_slice(), errors),
     };
     ExitCode::from(2)
 }
@@ -102,10 +106,13 @@ pub fn refuse<E: Write>(refusal: RunRefusal, errors: &mut E) -> ExitCode
 fn write_answer<W: Write, E: Write>(answer: &Answer, output: &mut W, errors: &mut E) -> ExitCode
     ensures { ((exit_status result ≡ cond answer.now.yes 0 1)
         × Appends (W.contents output.old) (W.contents output.new) answer.now.text.items
-        × (errors.new ≡ errors.old)) ⊎ (exit_status result ≡ 2) }
+        × (errors.new ≡ errors.old))
+        ⊎ ((exit_status result ≡ 2)
+        × AppendsFront (W.contents output.old) (W.contents output.new) answer.now.text.items
+        × AppendsFront (E.contents errors.old) (E.contents errors.new) unwritten_line) }
 {
-    if write_and_flush(answer.text.as_slice(), output).is_err() {
-        let _ = errors.write_all(b"error: the answer cannot be written\n");
+    if !write_and_flush(answer.text.as_slice(), output) {
+        let _ = write_front("error: the answer cannot be written\n".as_bytes(), errors);
         return ExitCode::from(2);
     }
     if answer.yes {
@@ -115,11 +122,32 @@ fn write_answer<W: Write, E: Write>(answer: &Answer, output: &mut W, errors: &mu
     }
 }
 
-fn write_and_flush<W: Write>(bytes: &[u8], output: &mut W) -> io::Result<()>
-    ensures { OnOk result (Appends (W.contents output.old) (W.contents output.new) bytes.now) }
+/// Writes and flushes some bytes, as many of them as can be written, and returns whether all are.
+fn write_and_flush<W: Write>(bytes: &[u8], output: &mut W) -> bool
+    ensures { WritesFront (W.contents output.old) (W.contents output.new) bytes.now result }
 {
-    output.write_all(bytes)?;
-    output.flush()
+    write_front(bytes, output) && output.flush().is_ok()
+}
+
+/// Writes some bytes, as many of them as can be written, and returns whether these are all. A writer
+/// that is interrupted is asked again. `write_all` is not used, since its contract does not say what
+/// a call that fails has written.
+fn write_front<W: Write>(bytes: &[u8], writer: &mut W) -> bool
+    ensures { WritesFront (W.contents writer.old) (W.contents writer.new) bytes.now result }
+{
+    let mut rest = bytes;
+    for _ in 0..usize::MAX {
+        if rest.is_empty() {
+            return true;
+        }
+        match writer.write(rest) {
+            Ok(0) => return false,
+            Ok(taken) => rest = &rest[taken..],
+            Err(error) if error.kind() == ErrorKind::Interrupted => {}
+            Err(_) => return false,
+        }
+    }
+    false
 }
 
 /// What a run answers to its words.
@@ -136,9 +164,18 @@ fn answer_of(alloc: Global, words: &[String], inputs: Inputs<'_>) -> Result<Answ
 {
     match asked(alloc, words) {
         Ok(asked) => answer_to(alloc, asked, inputs),
-        Err(WordsRefusal::Memory) => Err(RunRefusal::Memory),
-        Err(WordsRefusal::Told(text)) => Err(RunRefusal::Told(text.into_bytes())),
-        Err(WordsRefusal::Help(text)) => Ok(Answer {
+        Err(refusal) => answer_without_request(refusal),
+    }
+}
+
+/// The answer to words that ask for nothing: the help or the refusal that is told of them.
+fn answer_without_request(refusal: WordsRefusal) -> Result<Answer, RunRefusal>
+    ensures { TellsWords refusal result }
+{
+    match refusal {
+        WordsRefusal::Memory => Err(RunRefusal::Memory),
+        WordsRefusal::Told(text) => Err(RunRefusal::Told(text.into_bytes())),
+        WordsRefusal::Help(text) => Ok(Answer {
             text: text.into_bytes(),
             yes: true,
         }),

@@ -1,5 +1,6 @@
 //! Why a run is refused, as text.
 ghost use Rattle.std.specs.Prelude.{◌≡◌, IfOk};
+ghost use Rattle.lookup_judge.specs.Told.{file_line, refusal_text};
 ghost use Rattle.lookup_judge.specs.declared.refusal.RunRefusal.TheVariants.{Memory};
 
 use crate::commands::Given;
@@ -43,14 +44,19 @@ impl<T: Drop> From<AllocFailed<T>> for RunRefusal {
 }
 
 impl RunRefusal {
-    /// What is wrong with a whole file.
-    pub fn of_file(alloc: Global, file: &[u8], what: &str) -> Result<RunRefusal, AllocError> {
-        let mut page = Page::new(alloc);
-        page.shown(file)?;
-        page.word(": error: ")?;
-        page.word(what)?;
-        page.word("\n")?;
-        Ok(RunRefusal::Told(page.bytes))
+    /// The line `FILE: error: WHAT` about a whole file. Each control character of the file's name is a
+    /// question mark.
+    ///
+    /// Fails when out of memory.
+    pub fn of_file(alloc: Global, file: &[u8], what: &str) -> Result<RunRefusal, AllocError>
+        ensures { IfOk result (λ e. refusal_text e ≡ file_line file.now what.now) }
+    {
+        let mut line = Page::new(alloc);
+        line.shown(file)?;
+        line.word(": error: ")?;
+        line.word(what)?;
+        line.word("\n")?;
+        Ok(RunRefusal::Told(line.bytes))
     }
 
     /// A word that writes no challenge, which is the value of an option.

@@ -3,6 +3,8 @@ use super::holds;
 use super::judgements::{TEXT, files};
 use lookup_judge::{Inputs, RunRefusal, bits_of, refuse, run};
 use std::alloc::{AllocError, Global};
+use std::io;
+use std::io::{ErrorKind, Write};
 use std::process::ExitCode;
 
 /// What a run ends with: its status, and all that it wrote.
@@ -113,14 +115,79 @@ fn refusals(rt: HostRuntime) {
         "the line",
         errors.as_slice() == b"error: out of memory\n".as_slice(),
     );
-    match RunRefusal::of_file(rt.alloc(), b"a.csv", "cannot be read") {
-        Ok(RunRefusal::Told(told)) => {
-            holds(
-                &rt,
-                "a file",
-                told.as_slice() == b"a.csv: error: cannot be read\n".as_slice(),
-            );
+    let Ok(refusal) = RunRefusal::of_file(rt.alloc(), b"a\tb.csv", "cannot be read") else {
+        return holds(&rt, "memory", false);
+    };
+    let mut slow = Slow {
+        bytes: Vec::new(rt.alloc()),
+        is_ready: true,
+    };
+    let status = refuse(refusal, &mut slow);
+    holds(&rt, "the same status", status == ExitCode::from(2));
+    holds(
+        &rt,
+        "a file",
+        slow.bytes.as_slice() == b"a?b.csv: error: cannot be read\n".as_slice(),
+    );
+}
+
+/// Takes one byte at a time, and is interrupted before each.
+#[derive(Drop)]
+struct Slow {
+    bytes: Vec<u8>,
+    is_ready: bool,
+}
+
+impl Write for Slow {
+    fn write(&mut self, bytes: &[u8]) -> io::Result<usize> {
+        self.is_ready = !self.is_ready;
+        if !self.is_ready {
+            return Err(io::Error::from(ErrorKind::Interrupted));
         }
-        _ => holds(&rt, "memory", false),
+        match bytes.first() {
+            Some(byte) => {
+                self.bytes.push(*byte)?;
+                Ok(1)
+            }
+            None => Ok(0),
+        }
     }
+
+    fn flush(&mut self) -> io::Result<()> {
+        Ok(())
+    }
+}
+
+/// Fails at every write.
+#[derive(Drop)]
+struct Closed;
+
+impl Write for Closed {
+    fn write(&mut self, _bytes: &[u8]) -> io::Result<usize> {
+        Err(io::Error::from(ErrorKind::BrokenPipe))
+    }
+
+    fn flush(&mut self) -> io::Result<()> {
+        Ok(())
+    }
+}
+
+#[test]
+fn an_answer_that_cannot_be_written(rt: HostRuntime) {
+    let inputs = Inputs {
+        text: b"",
+        files: &[],
+        witness: b"",
+    };
+    let mut errors = Vec::new(rt.alloc());
+    let Ok(word) = String::from_str(rt.alloc(), "--help") else {
+        return holds(&rt, "memory", false);
+    };
+    let status = run(rt.alloc(), &[word], inputs, &mut Closed, &mut errors);
+    holds(&rt, "the status", status == ExitCode::from(2));
+    holds(
+        &rt,
+        "the line",
+        errors.as_slice() == b"error: the answer cannot be written\n".as_slice(),
+    );
 }

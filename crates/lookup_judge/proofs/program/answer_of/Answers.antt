@@ -3,6 +3,7 @@ use Rattle.std.proofs.lemmas.Result.{MatchResult-weaker}
 use Rattle.std.specs.String.{string_bytes}
 use Rattle.lookup_words.specs.Line.{line_app}
 use Rattle.lookup_words.specs.Words.{IsRefused}
+use Rattle.lookup_judge.proofs.TellLaws.{told_words}
 use Rattle.lookup_judge.proofs.program.answer_of.Goals as goal
 
 pub returns-in-Ok : goal.returns-in-Ok
@@ -14,14 +15,11 @@ returns-in-Ok c =
       | inr refused ↦ inr (asks.0, asks.1, inr (c.in-Ok.asked, asks.2, refused))
     ])
 
-pub returns-in-Err-Told : goal.returns-in-Err-Told
-returns-in-Err-Told c =
-    let text = c.in-Err-Told.text in
-    let refused = subst (IsRefused (line_app c.in-Err-Told.ensures.0) (map string_bytes c.args.words.now)) c.in-Err-Told.field-0-is c.in-Err-Told.ensures.2 in
-    inr (c.in-Err-Told.ensures.0, c.in-Err-Told.ensures.1, inl (text, refused))
-
-pub returns-in-Err-Help : goal.returns-in-Err-Help
-returns-in-Err-Help c =
-    let text = c.in-Err-Help.text in
-    let refused = subst (IsRefused (line_app c.in-Err-Help.ensures.0) (map string_bytes c.args.words.now)) c.in-Err-Help.field-0-is c.in-Err-Help.ensures.2 in
-    (c.in-Err-Help.ensures.0, c.in-Err-Help.ensures.1, inr (text, refused, refl))
+pub returns-in-Err : goal.returns-in-Err
+returns-in-Err c =
+    let asks = c.in-Err.ensures in
+    let Refuses = IsRefused (line_app asks.0) (map string_bytes c.args.words.now) in
+    told_words _ _ c.in-Err.refusal c.answer_without_request.result c.answer_without_request.ensures
+    (λ help is answer yes. (asks.0, asks.1, inr (help, subst Refuses is asks.2, yes)))
+    (λ told is e. inr (asks.0, asks.1, inl (told, subst Refuses is asks.2)))
+    (inl refl)

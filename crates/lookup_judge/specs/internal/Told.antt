@@ -1,0 +1,21 @@
+-- What is told of words, and what a writer says that it has written.
+use Rattle.std.specs.Prelude.{◌≡◌, ℕ, Bool, true, List, MatchResult, Option, Result}
+use Rattle.std.specs.Io.KnownBytes.{Appends}
+use Rattle.std.specs.String.{string_bytes}
+use Rattle.lookup_words.specs.declared.refusal.WordsRefusal.{WordsRefusal}
+use Rattle.lookup_words.specs.declared.refusal.WordsRefusal.TheVariants as of_words
+use Rattle.lookup_judge.specs.Told.{AppendsFront, refusal_text}
+use Rattle.lookup_judge.specs.declared.program.Answer.{Answer}
+use Rattle.lookup_judge.specs.declared.refusal.RunRefusal.{RunRefusal}
+use Rattle.lookup_judge.specs.declared.refusal.RunRefusal.TheVariants.{Memory}
+
+-- a front of these bytes is written, and all of them if the writer says so
+pub record WritesFront (old new : Option (List ℕ)) (bytes : List ℕ) (whole : Bool) : Type 0 where
+  pub front : AppendsFront old new bytes
+  pub all : whole ≡ true → Appends old new bytes
+
+-- what words come to that ask for nothing: the help or the refusal that is told of them
+abbrev pub TellsWords : WordsRefusal → Result Answer RunRefusal → Type 0
+TellsWords of_words.Memory result = MatchResult result (λ _. ⊥) (λ e. e ≡ Memory)
+TellsWords (of_words.Told told) result = MatchResult result (λ _. ⊥) (λ e. refusal_text e ≡ string_bytes told)
+TellsWords (of_words.Help help) result = MatchResult result (λ answer. (answer.text.items ≡ string_bytes help) × (answer.yes ≡ true)) (λ _. ⊥)
