@@ -116,6 +116,10 @@ fn the_square_of_x_is_seven(rt: HostRuntime) {
     let inverse = quadratic(3_074_457_344_902_430_720, 15_372_286_724_512_153_601);
     inverts(&rt, "1 + x", quadratic(1, 1), inverse);
     zero_has_no_inverse(&rt, Goldilocks2::ZERO);
+}
+
+#[test]
+fn elements_have_two_coefficients(rt: HostRuntime) {
     let coefficients = quadratic(3, 4).coefficients();
     holds(
         &rt,
