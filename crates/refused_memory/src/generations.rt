@@ -1,4 +1,8 @@
 //! Calls of generation.
+ghost use Rattle.std.specs.Prelude.{◌*◌, ◌≤◌, None, length};
+ghost use Rattle.expressions.specs.Layout.{layout_of_traces};
+ghost use Rattle.lookup_model.specs.Records.{LookupsFit};
+
 use crate::inputs::{
     BALANCED, LOCAL, LOOKUPS, UNLAWFUL, VANISHING, elements, lookups_of, read, table, trace,
 };
@@ -26,16 +30,32 @@ fn generate<F: Field, EF: ExtensionField<F>>(
     if !fits(lookups, &layout) || lookups.len() > challenges.len() / 2 {
         return Err(LookupError::DegreeOverflow);
     }
-    let gadget = LogUpGadget::new();
-    let Some(count) = count else {
-        return gadget.generate_permutation(alloc, main, None, &[], lookups, challenges);
-    };
+    match count {
+        Some(count) => generate_counted(alloc, main, &[], lookups, challenges, count),
+        None => {
+            LogUpGadget::new().generate_permutation(alloc, main, None, &[], lookups, challenges)
+        }
+    }
+}
+
+/// What generation makes over a main trace and public values, with a count of its inverses.
+fn generate_counted<'a, F: Field, EF: ExtensionField<F>>(
+    alloc: Global,
+    main: &'a RowMajorMatrix<F>,
+    public_values: &'a [F],
+    lookups: &[Lookup<F>],
+    challenges: &[EF],
+    count: &mut InverseCount,
+) -> Generated<EF>
+    requires fit { LookupsFit (layout_of_traces main.now None public_values.now) lookups.now }
+    requires challenges { 2 * length lookups.now ≤ length challenges.now }
+{
     let traces = Traces {
         main,
         preprocessed: None,
-        public_values: &[],
+        public_values,
     };
-    gadget.generate_counted(alloc, &traces, lookups, challenges, count)
+    LogUpGadget::new().generate_counted(alloc, &traces, lookups, challenges, count)
 }
 
 /// Both calls over one trace, and what the second one has counted.

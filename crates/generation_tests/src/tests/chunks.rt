@@ -1,4 +1,8 @@
 //! Generation in chunks of 1024 rows: what stands where chunks meet, and how many inverses are counted.
+ghost use Rattle.std.specs.Prelude.{◌*◌, ◌≤◌, None, length};
+ghost use Rattle.expressions.specs.Layout.{layout_of_traces};
+ghost use Rattle.lookup_model.specs.Records.{LookupsFit};
+
 use super::comparison::ranges;
 use super::{Made, are_numbers, are_zero, holds, local, range, trace};
 use air::{AirLayout, Traces};
@@ -6,7 +10,7 @@ use field::{
     BabyBear, BabyBear4, ExtensionDomain, F7, Field, InverseCount, Inverter,
     PrimeCharacteristicRing,
 };
-use lookup::{LogUpGadget, Lookup, LookupError, fits};
+use lookup::{LogUpGadget, Lookup, LookupError, LookupTerminal, fits};
 use matrix::RowMajorMatrix;
 use std::alloc::Global;
 use std::process::Abort;
@@ -21,18 +25,34 @@ pub(super) fn generate_counted<F: Field, EF: ExtensionDomain<F>, I: Inverter<EF>
     inverter: &mut I,
 ) -> Result<Made<EF>, LookupError> {
     let no_values: Vec<F> = Vec::new(alloc);
-    let layout = AirLayout::of_traces(main, None, no_values.as_slice());
+    let values = no_values.as_slice();
+    let layout = AirLayout::of_traces(main, None, values);
     assert!(rt; fits(lookups, &layout));
     assert!(rt; lookups.len() <= challenges.len() / 2);
-    let traces = Traces {
-        main,
-        preprocessed: None,
-        public_values: no_values.as_slice(),
-    };
-    match LogUpGadget::new().generate_counted(alloc, &traces, lookups, challenges, inverter) {
+    match over_values(alloc, main, values, lookups, challenges, inverter) {
         Ok((auxiliary, terminal)) => Ok(Made::new(auxiliary, terminal)),
         Err(fault) => Err(fault),
     }
+}
+
+/// The auxiliary trace and the terminal over a main trace and public values.
+fn over_values<'a, F: Field, EF: ExtensionDomain<F>, I: Inverter<EF>>(
+    alloc: Global,
+    main: &'a RowMajorMatrix<F>,
+    public_values: &'a [F],
+    lookups: &[Lookup<F>],
+    challenges: &[EF],
+    inverter: &mut I,
+) -> Result<(RowMajorMatrix<EF>, Option<LookupTerminal<EF>>), LookupError>
+    requires fit { LookupsFit (layout_of_traces main.now None public_values.now) lookups.now }
+    requires challenges { 2 * length lookups.now ≤ length challenges.now }
+{
+    let traces = Traces {
+        main,
+        preprocessed: None,
+        public_values,
+    };
+    LogUpGadget::new().generate_counted(alloc, &traces, lookups, challenges, inverter)
 }
 
 /// The same over F7, with how many inverses are counted.
