@@ -187,17 +187,18 @@ module _
     AnswersTo (Batch request) text files witness answer = AnswersIn request.field request.task text files witness answer
     AnswersTo (Bits request) text files witness answer = IsTrue answer.yes ↔ MeetsTarget (challenges_of request.field) request.target (request.width * (request.unbalanced - 1)) (alphas_of request.messages request.unbalanced)
 
-    -- The answer to the words of a command line: to what they ask for, or the help that they ask for, and then it is yes.
+    -- The answer to the words of a command line: to what they ask for; or, where they ask for help, one that is yes. Its
+    -- text is left to tests.
     abbrev pub IsAnswer : List (List ℕ) → List ℕ → List File → List ℕ → Answer → Type 0
     IsAnswer words text files witness answer =
         (names : Names) × HasFieldNames names
         × (((asked : Asked) × IsAsked (line_app names) words asked × AnswersTo asked text files witness answer)
         ⊎ ((help : String Global) × IsRefused (line_app names) words (Help help) × (answer.yes ≡ true)))
 
--- The status of a run, and what becomes of its outputs. An answer is written whole, with status 0 if it is yes and 1 if
--- not, and nothing to the errors; or the status is 2, a front of the answer is written, and to the errors a front of the
--- line that it cannot be written. A refusal has status 2, leaves the output as it was, and a front of its text is written
--- to the errors. A front may be empty or all of a text.
+-- The status of a run, and what becomes of its outputs, of those whose bytes are known. An answer is written whole, with
+-- status 0 if it is yes and 1 if not, and nothing to the errors; or the status is 2, a front of the answer is written, and
+-- to the errors a front of the line that says that it cannot be written. A refusal has status 2, leaves the output as it
+-- was, and a front of its text is written to the errors. A front may be empty or all of a text.
 abbrev pub Ends : {W E : Type 0} → (W → Option (List ℕ)) → (E → Option (List ℕ)) → Result Answer RunRefusal → ℕ → W → W → E → E → Type 0
 Ends contents contents_of_errors answer status output output_after errors errors_after = MatchResult answer
     (λ a.

@@ -8,7 +8,7 @@ use Rattle.lookup_judge.specs.declared.refusal.RunRefusal.TheVariants.{Memory, T
 abbrev pub AppendsFront : Option (List ℕ) → Option (List ℕ) → List ℕ → Type 0
 AppendsFront old new bytes = (front : List ℕ) × (rest : List ℕ) × (bytes ≡ front ++ rest) × Appends old new front
 
--- a byte of a file as it is shown: one below 32, and 127, as a question mark
+-- a byte of a file or of its name as it is shown: one below 32, and 127, as a question mark
 abbrev pub shown_byte : ℕ → ℕ
 shown_byte byte = if (nat_lt byte 32 || (byte == 127)) then 63 else byte
 

@@ -33,7 +33,7 @@ impl Page {
         self.bytes.extend_from_slice(word.as_bytes())
     }
 
-    /// Appends bytes of a file, each control character as a question mark.
+    /// Appends bytes of a file, each ASCII control character as a question mark.
     pub(crate) fn shown(&mut self, bytes: &[u8]) -> Result<(), AllocError>
         ensures { OnOk result (self.new.bytes.items
             ≡ self.old.bytes.items ++ map shown_byte bytes.now) }

@@ -57,10 +57,12 @@ impl Answer {
 /// Runs the words of a command line over the bytes of the files that they name; see
 /// `lookup_words::asked`.
 ///
-/// Writes the answer to `output`. If the run is refused, it writes why to `errors`, and nothing to
-/// `output`. If the answer cannot be written, of which a part may be in `output`, it writes that to
-/// `errors`. Of either text a front is written there: all of it, unless a write fails, which is tested.
-/// The status is 0 if the answer is yes, 1 if it is no, and 2 if the run is refused or a write fails.
+/// Writes the answer to `output`. If the run is refused, writes why to `errors`, and nothing to
+/// `output`. If the answer cannot be written, a part of it may be in `output`, and `errors` gets a line
+/// that says so. The status is 0 if the answer is yes, 1 if it is no, and 2 if the run is refused or a
+/// write fails. Tested, and not proved: what a refusal says; that what goes to `errors` is whole unless
+/// a write fails; and that an answer ends with status 2 only where one does.
+///
 /// The answer to `check` is whether all messages balance, to `plan` and `bits` whether as many bits are
 /// left as are wanted, to `accept` whether the witness is accepted, and to `any` whether any is; to the
 /// other commands it is yes.
@@ -90,7 +92,8 @@ pub fn run<W: Write, E: Write>(
     }
 }
 
-/// Writes to `errors` why a run is refused, as far as that can be written. The status is 2.
+/// Writes to `errors` a front of what tells a refusal: all of it unless a write fails, which is tested.
+/// The status is 2.
 pub fn refuse<E: Write>(refusal: RunRefusal, errors: &mut E) -> ExitCode
     ensures { (exit_status result ≡ 2)
         × AppendsFront (E.contents errors.old) (E.contents errors.new) (refusal_text refusal) }
@@ -102,7 +105,7 @@ pub fn refuse<E: Write>(refusal: RunRefusal, errors: &mut E) -> ExitCode
     ExitCode::from(2)
 }
 
-/// Writes an answer to `output`, or to `errors` that it cannot be written.
+/// Writes an answer to `output`; if that fails, writes to `errors` that it cannot be written.
 fn write_answer<W: Write, E: Write>(answer: &Answer, output: &mut W, errors: &mut E) -> ExitCode
     ensures { ((exit_status result ≡ cond answer.now.yes 0 1)
         × Appends (W.contents output.old) (W.contents output.new) answer.now.text.items
@@ -122,16 +125,16 @@ fn write_answer<W: Write, E: Write>(answer: &Answer, output: &mut W, errors: &mu
     }
 }
 
-/// Writes and flushes some bytes, as many of them as can be written, and returns whether all are.
+/// As `write_front`, and then flushes, which is tested. Returns `false` as well if flushing fails.
 fn write_and_flush<W: Write>(bytes: &[u8], output: &mut W) -> bool
     ensures { WritesFront (W.contents output.old) (W.contents output.new) bytes.now result }
 {
     write_front(bytes, output) && output.flush().is_ok()
 }
 
-/// Writes some bytes, as many of them as can be written, and returns whether these are all. A writer
-/// that is interrupted is asked again. `write_all` is not used, since its contract does not say what
-/// a call that fails has written.
+/// Writes a front of some bytes; these are all of them if it returns `true`. That it stops only where a
+/// write fails, and asks a writer that is interrupted again, is tested. `write_all` is not used, since
+/// its contract does not say what a call that fails has written.
 fn write_front<W: Write>(bytes: &[u8], writer: &mut W) -> bool
     ensures { WritesFront (W.contents writer.old) (W.contents writer.new) bytes.now result }
 {

@@ -44,8 +44,8 @@ impl<T: Drop> From<AllocFailed<T>> for RunRefusal {
 }
 
 impl RunRefusal {
-    /// The line `FILE: error: WHAT` about a whole file. Each control character of the file's name is a
-    /// question mark.
+    /// The line `FILE: error: WHAT` about a whole file. Each ASCII control character of the file's name
+    /// is a question mark.
     ///
     /// Fails when out of memory.
     pub fn of_file(alloc: Global, file: &[u8], what: &str) -> Result<RunRefusal, AllocError>

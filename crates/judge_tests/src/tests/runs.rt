@@ -158,36 +158,85 @@ impl Write for Slow {
     }
 }
 
-/// Fails at every write.
+/// Has room for some bytes and takes no more, and may fail at a flush.
 #[derive(Drop)]
-struct Closed;
+struct Full {
+    bytes: Vec<u8>,
+    room: usize,
+    can_flush: bool,
+}
 
-impl Write for Closed {
-    fn write(&mut self, _bytes: &[u8]) -> io::Result<usize> {
-        Err(io::Error::from(ErrorKind::BrokenPipe))
+impl Write for Full {
+    fn write(&mut self, bytes: &[u8]) -> io::Result<usize> {
+        let taken = self.room.min(bytes.len());
+        self.bytes.extend_from_slice(&bytes[..taken])?;
+        self.room -= taken;
+        Ok(taken)
     }
 
     fn flush(&mut self) -> io::Result<()> {
-        Ok(())
+        if self.can_flush {
+            Ok(())
+        } else {
+            Err(io::Error::from(ErrorKind::BrokenPipe))
+        }
     }
 }
 
-#[test]
-fn an_answer_that_cannot_be_written(rt: HostRuntime) {
+/// What is written of a call for help, if that ends with this status and this line to the errors.
+fn written(
+    alloc: Global,
+    mut output: Full,
+    status: u8,
+    line: &[u8],
+) -> Result<Option<Vec<u8>>, AllocError> {
     let inputs = Inputs {
         text: b"",
         files: &[],
         witness: b"",
     };
-    let mut errors = Vec::new(rt.alloc());
-    let Ok(word) = String::from_str(rt.alloc(), "--help") else {
-        return holds(&rt, "memory", false);
+    let words = [String::from_str(alloc, "--help")?];
+    let mut errors = Vec::new(alloc);
+    let ended = run(alloc, &words, inputs, &mut output, &mut errors);
+    if ended == ExitCode::from(status) && errors.as_slice() == line {
+        Ok(Some(output.bytes))
+    } else {
+        Ok(None)
+    }
+}
+
+/// A writer with room for so many bytes.
+fn full(alloc: Global, room: usize, can_flush: bool) -> Full {
+    Full {
+        bytes: Vec::new(alloc),
+        room,
+        can_flush,
+    }
+}
+
+const UNWRITTEN: &[u8] = b"error: the answer cannot be written\n";
+
+#[test]
+fn help_is_written(rt: HostRuntime) {
+    let alloc = rt.alloc();
+    let Ok(Some(help)) = written(alloc, full(alloc, 10_000, true), 0, b"") else {
+        return holds(&rt, "status 0", false);
     };
-    let status = run(rt.alloc(), &[word], inputs, &mut Closed, &mut errors);
-    holds(&rt, "the status", status == ExitCode::from(2));
-    holds(
-        &rt,
-        "the line",
-        errors.as_slice() == b"error: the answer cannot be written\n".as_slice(),
-    );
+    let usage = match str::from_utf8(help.as_slice()) {
+        Ok(text) => text.contains("Usage: lookup-check <COMMAND>"),
+        Err(_) => false,
+    };
+    holds(&rt, "its usage", usage);
+}
+
+#[test]
+fn an_answer_that_cannot_be_written(rt: HostRuntime) {
+    let alloc = rt.alloc();
+    for (room, can_flush) in [(0, true), (4, true), (10_000, false)] {
+        let Ok(Some(bytes)) = written(alloc, full(alloc, room, can_flush), 2, UNWRITTEN) else {
+            return holds(&rt, "status 2 and the line", false);
+        };
+        let is_full = bytes.len() == room;
+        holds(&rt, "as much as there is room for", is_full == can_flush);
+    }
 }

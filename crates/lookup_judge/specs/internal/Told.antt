@@ -1,4 +1,4 @@
--- What is told of words, and what a writer says that it has written.
+-- What comes of words that ask for nothing, and how much of some bytes is written.
 use Rattle.std.specs.Prelude.{◌≡◌, ℕ, Bool, true, List, MatchResult, Option, Result}
 use Rattle.std.specs.Io.KnownBytes.{Appends}
 use Rattle.std.specs.String.{string_bytes}
@@ -9,12 +9,12 @@ use Rattle.lookup_judge.specs.declared.program.Answer.{Answer}
 use Rattle.lookup_judge.specs.declared.refusal.RunRefusal.{RunRefusal}
 use Rattle.lookup_judge.specs.declared.refusal.RunRefusal.TheVariants.{Memory}
 
--- a front of these bytes is written, and all of them if the writer says so
+-- a front of these bytes is written, and all of them if `whole` is true
 pub record WritesFront (old new : Option (List ℕ)) (bytes : List ℕ) (whole : Bool) : Type 0 where
   pub front : AppendsFront old new bytes
   pub all : whole ≡ true → Appends old new bytes
 
--- what words come to that ask for nothing: the help or the refusal that is told of them
+-- what comes of words that ask for nothing: help, or a refusal
 abbrev pub TellsWords : WordsRefusal → Result Answer RunRefusal → Type 0
 TellsWords of_words.Memory result = MatchResult result (λ _. ⊥) (λ e. e ≡ Memory)
 TellsWords (of_words.Told told) result = MatchResult result (λ _. ⊥) (λ e. refusal_text e ≡ string_bytes told)
