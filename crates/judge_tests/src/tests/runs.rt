@@ -206,7 +206,7 @@ fn written(
 }
 
 /// A writer with room for so many bytes.
-fn full(alloc: Global, room: usize, can_flush: bool) -> Full {
+fn with_room(alloc: Global, room: usize, can_flush: bool) -> Full {
     Full {
         bytes: Vec::new(alloc),
         room,
@@ -219,7 +219,7 @@ const UNWRITTEN: &[u8] = b"error: the answer cannot be written\n";
 #[test]
 fn help_is_written(rt: HostRuntime) {
     let alloc = rt.alloc();
-    let Ok(Some(help)) = written(alloc, full(alloc, 10_000, true), 0, b"") else {
+    let Ok(Some(help)) = written(alloc, with_room(alloc, 10_000, true), 0, b"") else {
         return holds(&rt, "status 0", false);
     };
     let usage = match str::from_utf8(help.as_slice()) {
@@ -233,7 +233,7 @@ fn help_is_written(rt: HostRuntime) {
 fn an_answer_that_cannot_be_written(rt: HostRuntime) {
     let alloc = rt.alloc();
     for (room, can_flush) in [(0, true), (4, true), (10_000, false)] {
-        let Ok(Some(bytes)) = written(alloc, full(alloc, room, can_flush), 2, UNWRITTEN) else {
+        let Ok(Some(bytes)) = written(alloc, with_room(alloc, room, can_flush), 2, UNWRITTEN) else {
             return holds(&rt, "status 2 and the line", false);
         };
         let is_full = bytes.len() == room;
