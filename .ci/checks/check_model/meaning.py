@@ -31,11 +31,16 @@ class NoRows(Exception):
 # --- tables ---
 
 
+def path_of(folder, name):
+    """The path of a file in a folder."""
+    return os.path.join(os.fsencode(folder), name)
+
+
 def bytes_in(folder, name):
     """What a file holds, or None where it cannot be read, as where its name is not UTF-8."""
     try:
         name.decode()
-        with open(os.path.join(os.fsencode(folder), name), "rb") as file:
+        with open(path_of(folder, name), "rb") as file:
             return file.read()
     except (OSError, ValueError):
         return None

@@ -43,15 +43,16 @@ def told(file, text, folder, report):
         sections = reading.batch_of(text)
         report_told, well = report(sections, folder, text)
     except reading.Fault as fault:
-        meant = near.near_name(sections, folder, text, fault.at, fault.why)
-        return refusal(telling.refused_at(file, text, fault.at, fault.why, meant))
+        hint = telling.hint_told(near.hint_of(sections, folder, text, fault.at, fault.why))
+        return refusal(telling.refused_at(file, text, fault.at, fault.why, hint))
     except meaning.TableFault as found:
-        return refusal(telling.refused_at(found.name, found.content, found.fault.at, found.fault.why))
+        path = meaning.path_of(folder, found.name)
+        return refusal(telling.refused_at(path, found.content, found.fault.at, found.fault.why))
     except meaning.NoRows as found:
-        return refusal(telling.refused(found.args[0], "there are no rows"))
+        return refusal(telling.refused(meaning.path_of(folder, found.args[0]), "there are no rows"))
     except counting.FlagFault as fault:
         airs = [section for section in sections if isinstance(section, reading.Air)]
-        return refusal(telling.flags_refused(file, text, airs[fault.air], fault))
+        return refusal(telling.flags_refused(file, text, folder, airs[fault.air], fault))
     except counting.Refused as why:
         return refusal(telling.refused(file, str(why)))
     except counting.Untold:
@@ -178,12 +179,19 @@ def options_of(words):
     return options, others
 
 
+def coefficients_told():
+    """What an element is written with."""
+    many = {1: b"one number", 2: b"two numbers", 4: b"four numbers"}[ASKED.extension]
+    joined = {1: b"", 2: b", joined by a comma", 4: b", joined by commas"}[ASKED.extension]
+    return b"%s below %s%s" % (many, telling.grouped(ASKED.characteristic), joined)
+
+
 def refused_challenge(options):
     """The refusal of the first challenge that is no element, or None."""
     for name in ("alpha", "beta"):
         if name in options and witnesses.element_in(options[name], witnesses.WORD) is None:
-            parts = (name.encode(), ASKED.challenges.encode(), options[name])
-            return refusal(b"error: '--%s' is no element of %s: %s\n" % parts)
+            parts = (name.encode(), ASKED.challenges.encode(), coefficients_told(), options[name])
+            return refusal(b"error: '--%s' is no element of %s (%s): %s\n" % parts)
     return None
 
 
@@ -215,7 +223,7 @@ def answer(words):
             return refusal(telling.refused(name, "cannot be read"))
     if refused := refused_challenge(options):
         return refused
-    return told(file, text, os.path.dirname(file), COMMANDS[command](options))
+    return told(file, text, file[: file.rfind(b"/") + 1], COMMANDS[command](options))
 
 
 def main():

@@ -1,4 +1,4 @@
-"""Names that differ by one letter from one that is there."""
+"""What is written behind a fault of a name: the name that was meant, off by one letter, or what its bus declares."""
 from . import meaning
 from .reading import Air, Bus, Fault, tokens_of
 
@@ -32,6 +32,14 @@ def candidates(sections, folder, at, why):
     if why == "UnknownName":
         names += [item.said[1] for item in air.items if item.kind in ("let", "public") and item.at < at]
     return names
+
+
+def hint_of(sections, folder, text, at, why):
+    """The near name, the line and the number of values that are declared of a bus, or None."""
+    if why == "TupleWidth":
+        named = [section for section in sections if isinstance(section, Bus) and section.name == name_at(text, at)]
+        return text.count(b"\n", 0, named[0].at) + 1, len(named[0].fields)
+    return near_name(sections, folder, text, at, why)
 
 
 def near_name(sections, folder, text, at, why):

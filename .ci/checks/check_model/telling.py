@@ -1,5 +1,5 @@
 """How a report and a refusal are written."""
-from . import counting
+from . import counting, meaning
 from .fields import ASKED, FIELDS
 from .reading import MARK
 
@@ -34,7 +34,7 @@ WHY = {
     "Section": "expected `bus` or `air`",
     "UnknownName": "no column, public value or definition has this name",
     "UnknownColumn": "no column has this name",
-    "NoWeight": "how often this counts depends on the row: add `at most N`, the most on one row",
+    "NoWeight": "how often this counts is not written as a number: add `at most N`, the most on one row",
     "LargeExpression": "the expressions up to here have more than 1,048,576 nodes",
     "DeepExpression": "with what its names stand for, this has more than 1,024 layers",
     "RepeatedDefinition": "a definition before this one has the same name",
@@ -95,8 +95,8 @@ def around(text, at):
     return line, before
 
 
-def refused_at(file, text, at, why, meant=None):
-    """A refusal with its place, the line there and a mark below, with the name that was meant, if one is near."""
+def refused_at(file, text, at, why, hint=b""):
+    """A refusal with its place, the line there and a mark below, with a hint behind it."""
     line, before = around(text, at)
     column = characters(line[:before]) + 1
     told = b"%s:%d:%d: error: %s\n" % (shown(file), line_of(text, at), column, why_text(why).encode())
@@ -106,8 +106,17 @@ def refused_at(file, text, at, why, meant=None):
     blanks = b"\t".join(b" " * characters(part) for part in line[:before].split(b"\t"))
     rest = line[before:]
     marked = len(rest) - len(rest.lstrip(NAME_BYTES))
-    hint = b"" if meant is None else b" did you mean `%s`?" % shown(meant)
     return told + b"%5d | %s\n      | %s%s%s\n" % (line_of(text, at), visible, blanks, b"^" * max(1, marked), hint)
+
+
+def hint_told(hint):
+    """What helps to mend a fault of a name: the name that was meant, or the line and the values that a bus declares."""
+    if hint is None:
+        return b""
+    if isinstance(hint, bytes):
+        return b" did you mean `%s`?" % shown(hint)
+    line, values = hint
+    return b" line %d declares %d value%s" % (line, values, b"" if values == 1 else b"s")
 
 
 def refused(file, what):
@@ -115,12 +124,13 @@ def refused(file, what):
     return b"%s: error: %s\n" % (shown(file), what.encode())
 
 
-def flags_refused(file, text, air, fault):
+def flags_refused(file, text, folder, air, fault):
     trace = next(item.said[1] for item in air.items if item.kind == "trace")
     lookups = [item for item in air.items if item.kind in ("message", "together", "exclusive")]
     line = line_of(text, lookups[fault.lookup].at)
     what = "1 on this row, and so is another one" if fault.several else "neither 0 nor 1 on this row"
-    place = b"%s:%d: error: a flag of %s:%d" % (shown(trace), fault.row + 2, shown(file), line)
+    path = meaning.path_of(folder, trace)
+    place = b"%s:%d: error: a flag of %s:%d" % (shown(path), fault.row + 2, shown(file), line)
     return b"%s is %s\n" % (place, what.encode())
 
 

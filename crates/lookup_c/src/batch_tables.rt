@@ -94,7 +94,7 @@ fn given_ids(alloc: Global, airs: &[Air<'_>]) -> Result<Vec<Vec<usize>>, AllocEr
 }
 
 /// The greater of `bound` and one more than the greatest id, up to `usize::MAX`.
-fn bound_of(ids: &[usize], bound: usize) -> usize
+fn bound_of_ids(ids: &[usize], bound: usize) -> usize
     ensures { result ≡ max bound (greatest (map next_number ids.now)) }
 {
     let mut least = bound;
@@ -111,7 +111,7 @@ fn id_bound(ids: &[Vec<usize>]) -> usize
 {
     let mut bound = 0;
     for list in ids {
-        bound = bound_of(list.as_slice(), bound);
+        bound = bound_of_ids(list.as_slice(), bound);
     }
     bound
 }

@@ -1,10 +1,9 @@
 //! The files that a command line and the text of a batch name.
 use crate::steps::Steps;
-use lookup_files::{NamedFile, files_of};
+use lookup_files::{NamedFile, files_of, path_beside};
 use lookup_judge::RunRefusal;
 use lookup_text::{TextFault, read_batch};
 use lookup_words::{BatchRequest, Task};
-use std::alloc::{AllocError, Global};
 use std::{fs, io};
 
 /// What the files hold that a run reads.
@@ -75,7 +74,7 @@ fn contents(rt: &HostRuntime, file: &str, text: &[u8]) -> Result<Vec<NamedFile>,
         if files.iter().any(|file: &NamedFile| file.name == name) {
             continue;
         }
-        let path = beside(alloc, file, name.as_slice())?;
+        let path = path_beside(alloc, file.as_bytes(), name.as_slice())?;
         let content = match str::from_utf8(path.as_slice()) {
             Ok(path) => read_file(rt, path)?,
             Err(_) => None,
@@ -83,19 +82,4 @@ fn contents(rt: &HostRuntime, file: &str, text: &[u8]) -> Result<Vec<NamedFile>,
         files.push(NamedFile { name, content })?;
     }
     Ok(files)
-}
-
-/// A file beside another one.
-fn beside(alloc: Global, file: &str, name: &[u8]) -> Result<Vec<u8>, AllocError> {
-    let mut path = Vec::new(alloc);
-    if !name.starts_with(b"/") {
-        let bytes = file.as_bytes();
-        let folder = match bytes.iter().rposition(|byte| *byte == b'/') {
-            Some(slash) => &bytes[..slash + 1],
-            None => &[],
-        };
-        path.extend_from_slice(folder)?;
-    }
-    path.extend_from_slice(name)?;
-    Ok(path)
 }

@@ -1,3 +1,4 @@
 pub mod Files
+pub mod Paths
 pub mod Shapes
 pub mod Tables

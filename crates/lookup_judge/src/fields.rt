@@ -74,6 +74,16 @@ pub(crate) fn challenge_field(field: FieldName) -> &'static str {
     }
 }
 
+/// What a challenge is written with: how many coefficients, and how large they are.
+pub(crate) fn coefficients(field: FieldName) -> &'static str {
+    match field {
+        FieldName::F7 => "one number below 7",
+        FieldName::BabyBear4 => "four numbers below 2,013,265,921, joined by commas",
+        FieldName::KoalaBear4 => "four numbers below 2,130,706,433, joined by commas",
+        FieldName::Goldilocks2 => "two numbers below 18,446,744,069,414,584,321, joined by a comma",
+    }
+}
+
 /// How many challenges there are in it.
 pub(crate) fn challenges(field: FieldName) -> u128
     ensures { result ≡ challenges_of field }

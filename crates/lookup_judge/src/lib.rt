@@ -12,6 +12,7 @@ mod columns;
 mod commands;
 mod fault;
 mod fields;
+mod hint;
 mod json;
 mod judgement;
 mod mark;

@@ -1,6 +1,7 @@
 //! Refusals with their places, as compilers write them.
 ghost use Rattle.std.specs.Prelude.{◌≤◌, length};
 
+use crate::hint::Hint;
 use crate::page::Page;
 use lookup_names::NameWhy;
 use lookup_text::{Why, place_of};
@@ -26,12 +27,12 @@ pub(crate) fn push_place(
 }
 
 /// Ends the line of a refusal, and appends the line of the text with a mark below the byte, and behind
-/// it the name that was meant, if one is near. A line of more than 200 bytes is left out.
+/// it what helps to mend the fault. A line of more than 200 bytes is left out.
 pub(crate) fn push_mark(
     page: &mut Page,
     text: &[u8],
     at: usize,
-    meant: &Option<Vec<u8>>,
+    hint: &Option<Hint>,
 ) -> Result<(), AllocError> {
     page.word("\n")?;
     let (start, end) = line_around(text, at);
@@ -52,12 +53,28 @@ pub(crate) fn push_mark(
     for _ in 0..marked(&line[before..]) {
         page.word("^")?;
     }
-    if let Some(name) = meant {
-        page.word(" did you mean `")?;
-        page.shown(name)?;
-        page.word("`?")?;
+    if let Some(hint) = hint {
+        push_hint(page, hint)?;
     }
     page.word("\n")
+}
+
+/// Appends what helps to mend a fault.
+fn push_hint(page: &mut Page, hint: &Hint) -> Result<(), AllocError> {
+    match hint {
+        Hint::Name(name) => {
+            page.word(" did you mean `")?;
+            page.shown(name)?;
+            page.word("`?")
+        }
+        Hint::Bus { line, values } => {
+            page.word(" line ")?;
+            page.number(*line as u128)?;
+            page.word(" declares ")?;
+            page.number(*values as u128)?;
+            page.word(if *values == 1 { " value" } else { " values" })
+        }
+    }
 }
 
 /// The first and the last byte of the line with this byte, without the end of the line.
@@ -166,7 +183,7 @@ pub(crate) fn name_text(why: NameWhy) -> &'static str {
         NameWhy::UnknownName => "no column, public value or definition has this name",
         NameWhy::UnknownColumn => "no column has this name",
         NameWhy::NoWeight => {
-            "how often this counts depends on the row: add `at most N`, the most on one row"
+            "how often this counts is not written as a number: add `at most N`, the most on one row"
         }
         NameWhy::LargeExpression => "the expressions up to here have more than 1,048,576 nodes",
         NameWhy::DeepExpression => "with what its names stand for, this has more than 1,024 layers",

@@ -32,7 +32,7 @@ pub(crate) fn near_name(
 }
 
 /// The name that begins at a byte of a text, behind a backquote up to the next one.
-fn name_at(text: &[u8], at: usize) -> &[u8] {
+pub(crate) fn name_at(text: &[u8], at: usize) -> &[u8] {
     let at = at.min(text.len());
     let is_quoted = at > 0 && text[at - 1] == b'`';
     let rest = &text[at..];

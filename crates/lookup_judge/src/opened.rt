@@ -16,7 +16,7 @@ ghost use Rattle.lookup_text.specs.Batches.{section_of};
 use crate::airs::{AirOver, airs_over};
 use crate::commands::{Given, batch_of, tables_in};
 use crate::fault::JudgeFault;
-use crate::fields::{TableField, challenge_field};
+use crate::fields::TableField;
 use crate::judgement::sizes_of;
 use crate::plan::plan_over;
 use crate::refusal::RunRefusal;
@@ -112,6 +112,6 @@ fn challenge_of<F: Field, EF: Challenge<F>>(
 {
     match EF::from_word(word.as_bytes()) {
         Some(challenge) => Ok(challenge),
-        None => Err(RunRefusal::of_challenge(alloc, challenge_field(field), option, word)?),
+        None => Err(RunRefusal::of_challenge(alloc, field, option, word)?),
     }
 }

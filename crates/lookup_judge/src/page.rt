@@ -80,7 +80,7 @@ impl Page {
     ) -> Result<(), AllocError> {
         let mut widths = Vec::new(self.alloc);
         for column in 0..right.len() {
-            widths.push(widest(lines, column))?;
+            widths.push(widest_cell(lines, column))?;
         }
         for line in lines {
             self.table_line(line, &widths, right)?;
@@ -125,7 +125,7 @@ pub(crate) fn characters(bytes: &[u8]) -> usize {
 }
 
 /// The most characters of a cell of a column.
-fn widest(lines: &[Vec<Vec<u8>>], column: usize) -> usize {
+fn widest_cell(lines: &[Vec<Vec<u8>>], column: usize) -> usize {
     let mut most = 0;
     for line in lines {
         if let Some(cell) = line.get(column) {

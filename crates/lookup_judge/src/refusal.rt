@@ -5,17 +5,19 @@ ghost use Rattle.lookup_judge.specs.declared.refusal.RunRefusal.TheVariants.{Mem
 
 use crate::commands::Given;
 use crate::fault::JudgeFault;
+use crate::fields::{challenge_field, coefficients};
+use crate::hint::{Hint, hint_of};
 use crate::mark::{name_text, push_mark, push_place, push_why};
-use crate::near::near_name;
 use crate::page::Page;
 use crate::words::{air_at, lookup_at, trace_file};
 use batch::BatchError;
 use lookup::LookupError;
 use lookup::debug_util::FitFault;
 use lookup_elements::ElementWhy;
-use lookup_files::{TableRefusal, TableWhy, content_of};
+use lookup_files::{TableRefusal, TableWhy, content_of, path_beside};
 use lookup_names::bytes_of;
 use lookup_text::{BatchText, Fault, Span, place_of};
+use lookup_words::FieldName;
 use std::alloc::{AllocError, AllocFailed, Global};
 
 /// A refusal of the program.
@@ -62,7 +64,7 @@ impl RunRefusal {
     /// A word that writes no challenge, which is the value of an option.
     pub(crate) fn of_challenge(
         alloc: Global,
-        field: &str,
+        field: FieldName,
         option: &str,
         word: &str,
     ) -> Result<RunRefusal, AllocError> {
@@ -70,8 +72,10 @@ impl RunRefusal {
         page.word("error: '--")?;
         page.word(option)?;
         page.word("' is no element of ")?;
-        page.word(field)?;
-        page.word(": ")?;
+        page.word(challenge_field(field))?;
+        page.word(" (")?;
+        page.word(coefficients(field))?;
+        page.word("): ")?;
         page.shown(word.as_bytes())?;
         page.word("\n")?;
         Ok(RunRefusal::Told(page.bytes))
@@ -99,22 +103,22 @@ impl RunRefusal {
         at: usize,
         what: &str,
     ) -> Result<RunRefusal, AllocError> {
-        RunRefusal::with_name(alloc, file, text, at, what, &None)
+        RunRefusal::with_hint(alloc, file, text, at, what, &None)
     }
 
-    /// What is wrong at a byte of a file, with the name that was meant there, if one is near.
-    fn with_name(
+    /// What is wrong at a byte of a file, with what helps to mend it.
+    fn with_hint(
         alloc: Global,
         file: &[u8],
         text: &[u8],
         at: usize,
         what: &str,
-        meant: &Option<Vec<u8>>,
+        hint: &Option<Hint>,
     ) -> Result<RunRefusal, AllocError> {
         let mut page = Page::new(alloc);
         push_place(&mut page, file, text, at)?;
         page.word(what)?;
-        push_mark(&mut page, text, at, meant)?;
+        push_mark(&mut page, text, at, hint)?;
         Ok(RunRefusal::Told(page.bytes))
     }
 
@@ -160,13 +164,14 @@ impl RunRefusal {
             TableWhy::RepeatedColumn => "a column before this one has the same name",
             TableWhy::Unreadable => "this file cannot be read",
             TableWhy::Text(why) => {
-                let name = match named {
-                    Some(span) => bytes_of(text, span),
-                    None => file,
-                };
                 let fault = Fault { at, why };
+                let Some(named) = named else {
+                    return RunRefusal::of_text(alloc, file, text, fault);
+                };
+                let name = bytes_of(text, named);
                 let content = content_of(files, name).unwrap_or(&[]);
-                return RunRefusal::of_text(alloc, name, content, fault);
+                let path = path_beside(alloc, file, name)?;
+                return RunRefusal::of_text(alloc, &path, content, fault);
             }
         };
         RunRefusal::at(alloc, file, text, at, what)
@@ -185,15 +190,15 @@ impl RunRefusal {
         match fault {
             JudgeFault::Memory => Ok(RunRefusal::Memory),
             JudgeFault::Name(found) => {
-                let meant = near_name(alloc, given, batch, found.at, found.why)?;
-                RunRefusal::with_name(alloc, file, text, found.at, name_text(found.why), &meant)
+                let hint = hint_of(alloc, given, batch, found)?;
+                RunRefusal::with_hint(alloc, file, text, found.at, name_text(found.why), &hint)
             }
             JudgeFault::Element(found) => {
                 RunRefusal::at(alloc, file, text, found.at, element_text(found.why))
             }
             JudgeFault::Rows { air, preprocessed } => {
-                let name = file_of(text, batch, air, preprocessed);
-                RunRefusal::of_file(alloc, name, "there are no rows")
+                let path = path_of(alloc, file, text, batch, air, preprocessed)?;
+                RunRefusal::of_file(alloc, &path, "there are no rows")
             }
             JudgeFault::Fit { air, fault } => {
                 let at = name_of(batch, air).start;
@@ -243,7 +248,7 @@ impl RunRefusal {
             }
         };
         let mut page = Page::new(alloc);
-        page.shown(file_of(text, batch, air, false))?;
+        page.shown(&path_of(alloc, file, text, batch, air, false)?)?;
         page.word(":")?;
         page.number(row as u128 + 2)?;
         page.word(": error: ")?;
@@ -276,15 +281,23 @@ fn name_of(batch: &BatchText, air: usize) -> Span {
     }
 }
 
-/// The file of the main or the preprocessed trace of the AIR with this number.
-fn file_of<'a>(text: &'a [u8], batch: &BatchText, air: usize, preprocessed: bool) -> &'a [u8] {
-    match air_at(batch, air) {
+/// The path of the file of the main or the preprocessed trace of the AIR with this number.
+fn path_of(
+    alloc: Global,
+    file: &[u8],
+    text: &[u8],
+    batch: &BatchText,
+    air: usize,
+    preprocessed: bool,
+) -> Result<Vec<u8>, AllocError> {
+    let name = match air_at(batch, air) {
         Some(air) => match trace_file(air, preprocessed) {
-            Some(file) => bytes_of(text, file),
+            Some(name) => bytes_of(text, name),
             None => &[],
         },
         None => &[],
-    }
+    };
+    path_beside(alloc, file, name)
 }
 
 /// Why a lookup cannot be made.

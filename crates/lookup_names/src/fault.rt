@@ -11,7 +11,7 @@ pub enum NameWhy {
     UnknownName,
     /// No column has this name, of which the next row is asked for.
     UnknownColumn,
-    /// How often a message counts depends on the row, and the most is not said.
+    /// How often a message counts is not written as a number, and the most is not said.
     NoWeight,
     /// There is no room for the nodes of an expression, where each name stands for its value and a
     /// power for its factors.

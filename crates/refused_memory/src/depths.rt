@@ -59,7 +59,10 @@ fn lookup_of(
 }
 
 /// One local lookup of this expression.
-fn one_of(alloc: Global, tree: SymbolicExpression<F7>) -> Result<Vec<Lookup<F7>>, AllocError> {
+fn one_lookup_of(
+    alloc: Global,
+    tree: SymbolicExpression<F7>,
+) -> Result<Vec<Lookup<F7>>, AllocError> {
     alone(alloc, lookup_of(alloc, Kind::Local, 0, tree)?)
 }
 
@@ -111,7 +114,7 @@ fn on_base(alloc: Global, out: &mut Out, kind: &str, tree: SymbolicExpression<F7
     match kind {
         "expression" => on_tree(alloc, out, tree),
         "lookup" => {
-            if let Some(lookups) = input(out, one_of(alloc, tree)) {
+            if let Some(lookups) = input(out, one_lookup_of(alloc, tree)) {
                 on_lookups(alloc, out, lookups.as_slice());
             }
         }

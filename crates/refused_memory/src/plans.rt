@@ -69,7 +69,7 @@ fn make_all_given(alloc: Global, out: &mut Out) {
 }
 
 /// A main trace alone.
-fn main_alone(main: &RowMajorMatrix<F7>) -> BatchTrace<'_, F7> {
+fn main_trace(main: &RowMajorMatrix<F7>) -> BatchTrace<'_, F7> {
     BatchTrace {
         main,
         preprocessed: None,
@@ -80,7 +80,7 @@ fn main_alone(main: &RowMajorMatrix<F7>) -> BatchTrace<'_, F7> {
 /// The witness of the trace that balances.
 fn accepted_witness(alloc: Global, out: &mut Out, plan: &BatchPlan<F7>) -> Option<Witness<F7>> {
     let main = trace(alloc, out, &BALANCED, 3)?;
-    let traces = [main_alone(&main)];
+    let traces = [main_trace(&main)];
     let made = plan.prove(alloc, traces.as_slice(), F7::new(5), F7::new(2));
     input(out, made)
 }
@@ -125,7 +125,7 @@ fn over(
     witness: &Witness<F7>,
 ) {
     if let Some(main) = trace(alloc, out, numbers, 3) {
-        let traces = [main_alone(&main)];
+        let traces = [main_trace(&main)];
         on_plan(alloc, out, plan, traces.as_slice(), witness);
         on_plan(alloc, out, plan, traces.as_slice(), witness);
         show(out, "input", &main);

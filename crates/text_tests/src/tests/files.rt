@@ -3,7 +3,7 @@ use super::examples::{MEMORY, PROCESSOR};
 use super::holds;
 use lookup_files::{
     AirShape, AirTables, NamedFile, TableFault, TableRefusal, TableWhy, content_of, files_of,
-    read_shapes, read_tables,
+    path_beside, read_shapes, read_tables,
 };
 use lookup_text::{BatchText, Why, read_batch};
 use std::alloc::{AllocError, Global};
@@ -76,6 +76,37 @@ fn contents(rt: HostRuntime) {
 
 /// The tables of a text over these files, with modulus 7, or why not. `None` where the text is not
 /// read.
+#[test]
+fn paths(rt: HostRuntime) {
+    let alloc = rt.alloc();
+    let is_at = |file: &[u8], name: &[u8], wanted: &[u8]| match path_beside(alloc, file, name) {
+        Ok(path) => is(&path, wanted),
+        Err(_) => false,
+    };
+    holds(&rt, "here", is_at(b"a.lookups", b"t.csv", b"t.csv"));
+    holds(
+        &rt,
+        "in a folder",
+        is_at(b"x/y/a.lookups", b"t.csv", b"x/y/t.csv"),
+    );
+    holds(
+        &rt,
+        "in another folder",
+        is_at(b"x/y/a.lookups", b"../z/t.csv", b"x/y/../z/t.csv"),
+    );
+    holds(
+        &rt,
+        "a path of its own",
+        is_at(b"x/a.lookups", b"/z/t.csv", b"/z/t.csv"),
+    );
+    holds(
+        &rt,
+        "at the root",
+        is_at(b"/a.lookups", b"t.csv", b"/t.csv"),
+    );
+    holds(&rt, "no name", is_at(b"x/a.lookups", b"", b"x/"));
+}
+
 fn tables(alloc: Global, text: &[u8]) -> Option<Result<Vec<AirTables>, TableFault>> {
     let batch: BatchText = read_batch(alloc, text).ok()?;
     let files = some_files(alloc).ok()?;

@@ -7,4 +7,4 @@ use Rattle.lookup_c.proofs.batch_tables.id_bound.Goals as goal
 
 pub loop-list-preserved : goal.loop-list-preserved
 loop-list-preserved c = bound_next c.args.ids.now c.loop-list.list-index c.list-item.result c.loop-list.bound _ c.loop-list-test.true c.list-item.is c.loop-list.invariant
-    (c.bound_of-bound.ensures ∙ ap (λ ids. max c.loop-list.bound (greatest (map next_number ids))) c.as_slice.ensures.value)
+    (c.bound_of_ids-bound.ensures ∙ ap (λ ids. max c.loop-list.bound (greatest (map next_number ids))) c.as_slice.ensures.value)
