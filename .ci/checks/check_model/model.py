@@ -43,7 +43,7 @@ def told(file, text, folder, report):
         sections = reading.batch_of(text)
         report_told, well = report(sections, folder, text)
     except reading.Fault as fault:
-        hint = telling.hint_told(near.hint_of(sections, folder, text, fault.at, fault.why))
+        hint = near.hint_of(sections, folder, text, fault.at, fault.why)
         return refusal(telling.refused_at(file, text, fault.at, fault.why, hint))
     except meaning.TableFault as found:
         path = meaning.path_of(folder, found.name)

@@ -1,8 +1,10 @@
-"""What is written behind a fault of a name: the name that was meant, off by one letter, or what its bus declares."""
-from . import meaning
+"""What helps to mend a fault: the name that was meant, off by one letter, what a bus declares, or a sign left out."""
+from . import meaning, telling
 from .reading import Air, Bus, Fault, tokens_of
 
 LONGEST = 64
+# The bytes that stand at the front of a name, a number or a parenthesis.
+BEGINNINGS = [bytes([byte]) for byte in telling.NAME_BYTES + b"`("]
 
 
 def is_near(left, right):
@@ -35,11 +37,15 @@ def candidates(sections, folder, at, why):
 
 
 def hint_of(sections, folder, text, at, why):
-    """The near name, the line and the number of values that are declared of a bus, or None."""
+    """What is written behind the mark below a fault, nothing where nothing helps."""
+    if why == "Sign )":
+        return b" is a sign missing before it?" if text[at : at + 1] in BEGINNINGS else b""
     if why == "TupleWidth":
-        named = [section for section in sections if isinstance(section, Bus) and section.name == name_at(text, at)]
-        return text.count(b"\n", 0, named[0].at) + 1, len(named[0].fields)
-    return near_name(sections, folder, text, at, why)
+        bus = next(section for section in sections if isinstance(section, Bus) and section.name == name_at(text, at))
+        values = b"%d value%s" % (len(bus.fields), b"" if len(bus.fields) == 1 else b"s")
+        return b" line %d declares %s" % (telling.line_of(text, bus.at), values)
+    name = near_name(sections, folder, text, at, why)
+    return b"" if name is None else b" did you mean `%s`?" % telling.shown(name)
 
 
 def near_name(sections, folder, text, at, why):

@@ -109,16 +109,6 @@ def refused_at(file, text, at, why, hint=b""):
     return told + b"%5d | %s\n      | %s%s%s\n" % (line_of(text, at), visible, blanks, b"^" * max(1, marked), hint)
 
 
-def hint_told(hint):
-    """What helps to mend a fault of a name: the name that was meant, or the line and the values that a bus declares."""
-    if hint is None:
-        return b""
-    if isinstance(hint, bytes):
-        return b" did you mean `%s`?" % shown(hint)
-    line, values = hint
-    return b" line %d declares %d value%s" % (line, values, b"" if values == 1 else b"s")
-
-
 def refused(file, what):
     """A refusal of a whole file."""
     return b"%s: error: %s\n" % (shown(file), what.encode())

@@ -1,17 +1,31 @@
-//! What is written behind the mark below a fault of a name.
+//! What is written behind the mark below a fault.
 use crate::commands::Given;
+use crate::mark::is_name;
 use crate::near::{name_at, near_name};
 use lookup_names::{NameRefusal, NameWhy, bytes_of};
-use lookup_text::{BatchText, SectionText, place_of};
+use lookup_text::{BatchText, Fault, SectionText, Why, place_of};
 use std::alloc::{AllocError, Global};
 
-/// What helps to mend a fault of a name.
+/// What helps to mend a fault.
 #[derive(Debug, Drop)]
 pub(crate) enum Hint {
     /// The name that was meant.
     Name(Vec<u8>),
     /// The line that declares the bus, and how many values its messages carry.
     Bus { line: usize, values: usize },
+    /// A sign before this place, maybe.
+    Sign,
+}
+
+/// What helps to mend a fault of a text, if anything does: where a name, a number or a parenthesis
+/// stands in place of `)`, a sign before it may have been left out.
+pub(crate) fn hint_of_text(text: &[u8], fault: Fault) -> Option<Hint> {
+    match (fault.why, text.get(fault.at)) {
+        (Why::Sign(b')'), Some(byte)) if is_name(*byte) || matches!(*byte, b'`' | b'(') => {
+            Some(Hint::Sign)
+        }
+        _ => None,
+    }
 }
 
 /// What helps to mend a fault of a name, if anything does.

@@ -6,7 +6,7 @@ ghost use Rattle.lookup_judge.specs.declared.refusal.RunRefusal.TheVariants.{Mem
 use crate::commands::Given;
 use crate::fault::JudgeFault;
 use crate::fields::{challenge_field, coefficients};
-use crate::hint::{Hint, hint_of};
+use crate::hint::{Hint, hint_of, hint_of_text};
 use crate::mark::{name_text, push_mark, push_place, push_why};
 use crate::page::Page;
 use crate::words::{air_at, lookup_at, trace_file};
@@ -132,7 +132,7 @@ impl RunRefusal {
         let mut page = Page::new(alloc);
         push_place(&mut page, file, text, fault.at)?;
         push_why(&mut page, fault.why)?;
-        push_mark(&mut page, text, fault.at, &None)?;
+        push_mark(&mut page, text, fault.at, &hint_of_text(text, fault))?;
         Ok(RunRefusal::Told(page.bytes))
     }
 
