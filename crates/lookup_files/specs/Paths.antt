@@ -1,5 +1,5 @@
 -- The paths of files that a text names.
-use Rattle.std.specs.Prelude.{◌≡◌, ◌++◌, ◌==◌, ℕ, List, [], ◌∷◌, reverse, if◌then◌else◌}
+use Rattle.std.specs.Prelude.{◌++◌, ◌==◌, ℕ, List, [], ◌∷◌, reverse, if◌then◌else◌}
 
 -- the bytes from the first slash on
 abbrev pub from_slash : List ℕ → List ℕ
