@@ -1,4 +1,4 @@
--- Batches that tables of numbers encode.
+-- Batches that tables of numbers encode, and their plan.
 use Rattle.std.specs.Prelude.{◌<◌, ◌≡◌, ◌⊎◌, ℕ, All, List, false, map, true}
 use Rattle.std.specs.List.{AllZip}
 use Rattle.field.specs.Residue.{Residue}
