@@ -24,8 +24,12 @@ pub fn path_beside(alloc: Global, file: &[u8], name: &[u8]) -> Result<Vec<u8>, A
 fn folder_of(file: &[u8]) -> &[u8]
     ensures { result.now ≡ folder_of file.now }
 {
-    match file {
-        [front @ .., last] if *last != b'/' => folder_of(front),
-        _ => file,
+    let mut folder = file;
+    while let [front @ .., last] = folder {
+        if *last == b'/' {
+            break;
+        }
+        folder = front;
     }
+    folder
 }
