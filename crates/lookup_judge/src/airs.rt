@@ -1,10 +1,11 @@
 //! The AIRs of a text over a field: what it says of each, over its columns or over its tables.
 ghost use Rattle.std.specs.Prelude.{◌≡◌, ◌⊎◌, IfErr, IfOk, MatchResult, map, option_map, true};
+ghost use Rattle.std.specs.List.{AllZip};
 ghost use Rattle.field.specs.Ring.{of_nat};
 ghost use Rattle.lookup.specs.Lookups.{lookups_of};
 ghost use Rattle.lookup_files.specs.Shapes.{column_names, shape_of};
 ghost use Rattle.lookup_files.specs.Tables.{tables_of};
-ghost use Rattle.lookup_judge.specs.Causes.{IsAirRefusal, IsElementRefusal, IsMiscounted, IsSayingRefusal, IsTableRefusal};
+ghost use Rattle.lookup_judge.specs.Causes.{IsAirRefusal, IsElementRefusal, IsFirstElementRefusal, IsMiscounted, IsSayingRefusal, IsTableRefusal};
 ghost use Rattle.lookup_judge.specs.Said.{AreLookupsOf, AreSaid, AreWhole, IsSaid, SayOver, airs_of, trace_in};
 ghost use Rattle.lookup_judge.specs.internal.Airs.{AreFittingAirs, IsFittingAir, over_traced};
 ghost use Rattle.lookup_names.specs.Lookups.{Said, said_of};
@@ -180,6 +181,24 @@ pub(crate) fn lookup_set<F: Field>(
         Ok(lookups) => Ok(lookups),
         Err(error) => Err(JudgeFault::Lookups { air, error }),
     }
+}
+
+/// The lookups of each AIR over a field.
+pub(crate) fn sets_over<F: Field>(
+    alloc: Global,
+    text: &[u8],
+    named: &[NamedAir],
+) -> Result<Vec<Lookups<F>>, JudgeFault>
+    ensures { MatchResult result (λ v. AllZip (λ air set. AreLookupsOf (of_nat F.ring) text.now
+        (said_of air) (lookups_of set)) named.now v.items)
+        (λ e. (e ≡ JudgeFault.Memory)
+        ⊎ IsFirstElementRefusal (of_nat F.ring) text.now (map said_of named.now) e) }
+{
+    let mut sets = Vec::new(alloc);
+    for index in 0..named.len() {
+        sets.push(lookup_set(alloc, text, &named[index], index)?)?;
+    }
+    Ok(sets)
 }
 
 /// The names and the trace of a preprocessed table, if there is one.

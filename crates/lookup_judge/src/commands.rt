@@ -14,14 +14,14 @@ ghost use Rattle.lookup_files.specs.declared.fault.TableRefusal.{TableRefusal};
 ghost use Rattle.lookup_text.specs.Batches.{batch_at, section_of};
 ghost use Rattle.lookup_text.specs.declared.fault.Fault.{Fault};
 
-use crate::airs::{airs_named, airs_of};
+use crate::airs::{airs_named, airs_of, sets_over};
 use crate::bits::push_target;
 use crate::fault::JudgeFault;
 use crate::fields::TableField;
 use crate::json::{push_airs_json, push_plan_json, push_report_json};
 use crate::judgement::judge;
 use crate::page::Page;
-use crate::plan::{judge_plan, sets_over};
+use crate::plan::judge_plan;
 use crate::program::Answer;
 use crate::refusal::RunRefusal;
 use crate::sections::{Told, push_airs, push_plan, push_report};

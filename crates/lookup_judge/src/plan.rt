@@ -6,17 +6,17 @@ ghost use Rattle.batch.specs.Runs.{plan_of};
 ghost use Rattle.field.specs.Ring.{of_nat};
 ghost use Rattle.lookup.specs.Lookups.{lookups_of};
 ghost use Rattle.lookup_files.specs.Shapes.{shape_of};
-ghost use Rattle.lookup_judge.specs.Causes.{IsFirstElementRefusal, IsPlanJudgeRefusal, IsPlanningRefusal, IsReportRefusal};
+ghost use Rattle.lookup_judge.specs.Causes.{IsPlanJudgeRefusal, IsPlanningRefusal, IsReportRefusal};
 ghost use Rattle.lookup_judge.specs.Found.{IsPlanFound, IsPlanOf, sized_over};
 ghost use Rattle.lookup_judge.specs.Said.{AreLookupsOf, SayOver, airs_of};
 ghost use Rattle.lookup_judge.specs.internal.Airs.{size_of};
 ghost use Rattle.lookup_judge.specs.internal.Sharing.{AllHaveTuples};
 ghost use Rattle.lookup_model.specs.declared.types.Lookup.{Lookup};
 ghost use Rattle.lookup_names.specs.Buses.{distinct_buses};
-ghost use Rattle.lookup_names.specs.Lookups.{Said, said_of};
+ghost use Rattle.lookup_names.specs.Lookups.{Said};
 ghost use Rattle.lookup_text.specs.Batches.{section_of};
 
-use crate::airs::{airs_named, lookup_set};
+use crate::airs::{airs_named, sets_over};
 use crate::fault::JudgeFault;
 use crate::report::PlanReport;
 use crate::sizes::{SizedAir, height_sum, reports_of};
@@ -24,7 +24,7 @@ use batch::BatchPlan;
 use field::{ExtensionField, Field, Over};
 use lookup::Lookups;
 use lookup_files::AirShape;
-use lookup_names::{NamedAir, check_buses};
+use lookup_names::check_buses;
 use lookup_text::BatchText;
 use std::alloc::{AllocError, Global};
 
@@ -60,24 +60,6 @@ pub fn judge_plan<F: Field, EF: ExtensionField<F>>(
     let airs = sized_airs(alloc, &sets, shapes)?;
     let plan = plan_over(alloc, &airs)?;
     report_plan::<F, EF>(alloc, &airs, &plan, max_degree)
-}
-
-/// The lookups of each AIR over a field.
-pub(crate) fn sets_over<F: Field>(
-    alloc: Global,
-    text: &[u8],
-    named: &[NamedAir],
-) -> Result<Vec<Lookups<F>>, JudgeFault>
-    ensures { MatchResult result (λ v. AllZip (λ air set. AreLookupsOf (of_nat F.ring) text.now
-        (said_of air) (lookups_of set)) named.now v.items)
-        (λ e. (e ≡ JudgeFault.Memory)
-        ⊎ IsFirstElementRefusal (of_nat F.ring) text.now (map said_of named.now) e) }
-{
-    let mut sets = Vec::new(alloc);
-    for index in 0..named.len() {
-        sets.push(lookup_set(alloc, text, &named[index], index)?)?;
-    }
-    Ok(sets)
 }
 
 /// Each set of lookups with the size of its AIR.

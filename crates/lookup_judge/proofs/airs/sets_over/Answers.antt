@@ -10,7 +10,7 @@ use Rattle.lookup_judge.specs.Said.{AreLookupsOf}
 use Rattle.lookup_names.specs.Lookups.{said_of}
 use Rattle.lookup_judge.proofs.AirLaws.{image_next}
 use Rattle.lookup_judge.proofs.CauseLaws.{first_refused}
-use Rattle.lookup_judge.proofs.plan.sets_over.Goals as goal
+use Rattle.lookup_judge.proofs.airs.sets_over.Goals as goal
 
 pub loop-index-preserved : goal.loop-index-preserved
 loop-index-preserved g c =
