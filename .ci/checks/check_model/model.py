@@ -181,16 +181,17 @@ def options_of(words):
 
 def coefficients_told():
     """What an element is written with."""
-    many = {1: b"one number", 2: b"two numbers", 4: b"four numbers"}[ASKED.extension]
-    joined = {1: b"", 2: b", joined by a comma", 4: b", joined by commas"}[ASKED.extension]
-    return b"%s below %s%s" % (many, telling.grouped(ASKED.characteristic), joined)
+    if ASKED.extension == 1:
+        return b"one number below %d" % ASKED.characteristic
+    joined = {2: b"two numbers joined by a comma", 4: b"four numbers joined by commas"}[ASKED.extension]
+    return b"%s without blanks, each below %d" % (joined, ASKED.characteristic)
 
 
 def refused_challenge(options):
     """The refusal of the first challenge that is no element, or None."""
     for name in ("alpha", "beta"):
         if name in options and witnesses.element_in(options[name], witnesses.WORD) is None:
-            parts = (name.encode(), ASKED.challenges.encode(), coefficients_told(), options[name])
+            parts = (name.encode(), ASKED.challenges.encode(), coefficients_told(), telling.shown(options[name]))
             return refusal(b"error: '--%s' is no element of %s (%s): %s\n" % parts)
     return None
 

@@ -3,8 +3,6 @@ from . import meaning, telling
 from .reading import Air, Bus, Fault, tokens_of
 
 LONGEST = 64
-# The bytes that stand at the front of a name, a number or a parenthesis.
-BEGINNINGS = [bytes([byte]) for byte in telling.NAME_BYTES + b"`("]
 
 
 def is_near(left, right):
@@ -30,16 +28,19 @@ def candidates(sections, folder, at, why):
         return []
     air = [section for section in sections if isinstance(section, Air) and section.at <= at][-1]
     main, fixed = meaning.shapes_of(folder, air)
-    names = [*main.names, *(b"pre." + name for name in (fixed.names if fixed else []))]
+    columns = [name for name in main.names if not name.startswith(b"pre.")]
+    names = [*columns, *(b"pre." + name for name in (fixed.names if fixed else []))]
     if why == "UnknownName":
-        names += [item.said[1] for item in air.items if item.kind in ("let", "public") and item.at < at]
+        known = [item for item in air.items if item.at <= at][:-1]
+        names += [item.said[1] for item in known if item.kind in ("let", "public")]
     return names
 
 
 def hint_of(sections, folder, text, at, why):
     """What is written behind the mark below a fault, nothing where nothing helps."""
     if why == "Sign )":
-        return b" is a sign missing before it?" if text[at : at + 1] in BEGINNINGS else b""
+        begins_value = any(token.at == at and token.kind in ("name", "number", "(") for token in tokens_of(text))
+        return b" is a comma or an operator missing before it?" if begins_value else b""
     if why == "TupleWidth":
         bus = next(section for section in sections if isinstance(section, Bus) and section.name == name_at(text, at))
         values = b"%d value%s" % (len(bus.fields), b"" if len(bus.fields) == 1 else b"s")

@@ -78,9 +78,12 @@ pub(crate) fn challenge_field(field: FieldName) -> &'static str {
 pub(crate) fn coefficients(field: FieldName) -> &'static str {
     match field {
         FieldName::F7 => "one number below 7",
-        FieldName::BabyBear4 => "four numbers below 2,013,265,921, joined by commas",
-        FieldName::KoalaBear4 => "four numbers below 2,130,706,433, joined by commas",
-        FieldName::Goldilocks2 => "two numbers below 18,446,744,069,414,584,321, joined by a comma",
+        FieldName::BabyBear4 =>
+            "four numbers joined by commas without blanks, each below 2013265921",
+        FieldName::KoalaBear4 =>
+            "four numbers joined by commas without blanks, each below 2130706433",
+        FieldName::Goldilocks2 =>
+            "two numbers joined by a comma without blanks, each below 18446744069414584321",
     }
 }
 

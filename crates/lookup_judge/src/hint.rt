@@ -1,9 +1,9 @@
 //! What is written behind the mark below a fault.
 use crate::commands::Given;
-use crate::mark::is_name;
 use crate::near::{name_at, near_name};
-use lookup_names::{NameRefusal, NameWhy, bytes_of};
-use lookup_text::{BatchText, Fault, SectionText, Why, place_of};
+use crate::words::bus_named;
+use lookup_names::{NameRefusal, NameWhy};
+use lookup_text::{BatchText, Fault, Kind, TextFault, Why, place_of, tokens};
 use std::alloc::{AllocError, Global};
 
 /// What helps to mend a fault.
@@ -13,19 +13,32 @@ pub(crate) enum Hint {
     Name(Vec<u8>),
     /// The line that declares the bus, and how many values its messages carry.
     Bus { line: usize, values: usize },
-    /// A sign before this place, maybe.
+    /// A comma or an operator may be missing before this place.
     Sign,
 }
 
-/// What helps to mend a fault of a text, if anything does: where a name, a number or a parenthesis
-/// stands in place of `)`, a sign before it may have been left out.
-pub(crate) fn hint_of_text(text: &[u8], fault: Fault) -> Option<Hint> {
-    match (fault.why, text.get(fault.at)) {
-        (Why::Sign(b')'), Some(byte)) if is_name(*byte) || matches!(*byte, b'`' | b'(') => {
-            Some(Hint::Sign)
+/// What helps to mend a fault of a text, if anything does: where a name, a number or `(` stands in place
+/// of `)`, a comma or an operator may be missing before it.
+pub(crate) fn hint_of_text(
+    alloc: Global,
+    text: &[u8],
+    fault: Fault,
+) -> Result<Option<Hint>, AllocError> {
+    let Why::Sign(b')') = fault.why else {
+        return Ok(None);
+    };
+    let found = match tokens(alloc, text) {
+        Ok(found) => found,
+        Err(TextFault::Memory) => return Err(AllocError),
+        Err(TextFault::Fault(_)) => return Ok(None),
+    };
+    for (kind, span) in &found {
+        let begins_value = matches!(*kind, Kind::Name(_) | Kind::Number(_) | Kind::Sign(b'('));
+        if begins_value && span.start == fault.at {
+            return Ok(Some(Hint::Sign));
         }
-        _ => None,
     }
+    Ok(None)
 }
 
 /// What helps to mend a fault of a name, if anything does.
@@ -46,17 +59,9 @@ pub(crate) fn hint_of(
 
 /// Where the bus is declared whose name stands at a byte of the text.
 fn declared_bus(text: &[u8], batch: &BatchText, at: usize) -> Option<Hint> {
-    let name = name_at(text, at);
-    for section in &batch.sections {
-        if let SectionText::Bus(bus) = section {
-            if bytes_of(text, bus.name) == name {
-                let line = place_of(text, bus.name.start).line;
-                return Some(Hint::Bus {
-                    line,
-                    values: bus.fields.len(),
-                });
-            }
-        }
-    }
-    None
+    let bus = bus_named(text, batch, name_at(text, at))?;
+    Some(Hint::Bus {
+        line: place_of(text, bus.name.start).line,
+        values: bus.fields.len(),
+    })
 }

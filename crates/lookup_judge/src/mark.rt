@@ -74,7 +74,7 @@ fn push_hint(page: &mut Page, hint: &Hint) -> Result<(), AllocError> {
             page.number(*values as u128)?;
             page.word(if *values == 1 { " value" } else { " values" })
         }
-        Hint::Sign => page.word(" is a sign missing before it?"),
+        Hint::Sign => page.word(" is a comma or an operator missing before it?"),
     }
 }
 

@@ -104,7 +104,8 @@ fn near_column(
         return Ok(None);
     };
     for column in &shape.columns {
-        if is_near(alloc, column, name)? {
+        // a name that begins with `pre.` is one of a fixed column
+        if !column.starts_with(b"pre.") && is_near(alloc, column, name)? {
             return Ok(Some(Vec::from_slice(alloc, column)?));
         }
     }
@@ -129,10 +130,14 @@ fn near_definition(
     let Some(air) = air_at(batch, air_around(batch, at)) else {
         return Ok(None);
     };
-    for item in &air.items {
-        if let ItemText::Let(other, _) | ItemText::Public(other, _) = &item.item {
+    for index in 1..air.items.len() {
+        // the item around the byte is not known in itself
+        if air.items[index].at > at {
+            break;
+        }
+        if let ItemText::Let(other, _) | ItemText::Public(other, _) = &air.items[index - 1].item {
             let other = bytes_of(text, *other);
-            if item.at < at && is_near(alloc, other, name)? {
+            if is_near(alloc, other, name)? {
                 return Ok(Some(Vec::from_slice(alloc, other)?));
             }
         }

@@ -132,7 +132,8 @@ impl RunRefusal {
         let mut page = Page::new(alloc);
         push_place(&mut page, file, text, fault.at)?;
         push_why(&mut page, fault.why)?;
-        push_mark(&mut page, text, fault.at, &hint_of_text(text, fault))?;
+        let hint = hint_of_text(alloc, text, fault)?;
+        push_mark(&mut page, text, fault.at, &hint)?;
         Ok(RunRefusal::Told(page.bytes))
     }
 

@@ -74,8 +74,6 @@ fn contents(rt: HostRuntime) {
     holds(&rt, "another one", other);
 }
 
-/// The tables of a text over these files, with modulus 7, or why not. `None` where the text is not
-/// read.
 #[test]
 fn paths(rt: HostRuntime) {
     let alloc = rt.alloc();
@@ -107,6 +105,8 @@ fn paths(rt: HostRuntime) {
     holds(&rt, "no name", is_at(b"x/a.lookups", b"", b"x/"));
 }
 
+/// The tables of a text over these files, with modulus 7, or why not. `None` where the text is not
+/// read.
 fn tables(alloc: Global, text: &[u8]) -> Option<Result<Vec<AirTables>, TableFault>> {
     let batch: BatchText = read_batch(alloc, text).ok()?;
     let files = some_files(alloc).ok()?;
