@@ -6,7 +6,7 @@ abbrev pub from_slash : List ℕ → List ℕ
 from_slash [] = []
 from_slash (byte ∷ bytes) = if byte == 47 then byte ∷ bytes else from_slash bytes
 
--- the folder of a file, up to its last slash: nothing where the path has none
+-- the folder of a file, up to and with its last slash: nothing where the path has none
 abbrev pub folder_of : List ℕ → List ℕ
 folder_of path = reverse (from_slash (reverse path))
 

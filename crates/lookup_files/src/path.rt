@@ -20,7 +20,7 @@ pub fn path_beside(alloc: Global, file: &[u8], name: &[u8]) -> Result<Vec<u8>, A
     Ok(path)
 }
 
-/// The folder of a file, up to the last slash of its path.
+/// The folder of a file, up to and with the last slash of its path.
 fn folder_of(file: &[u8]) -> &[u8]
     ensures { result.now ≡ folder_of file.now }
 {
