@@ -1,13 +1,19 @@
 #!/usr/bin/env bash
 # Each block of the README's example stands, apart from layout, in the test that runs it, and the one from
-# Rust in the program of docs/RUST.md, which .ci/checks/bindings.sh runs. The first run is the program's stored one.
+# Rust in the program of docs/RUST.md, which .ci/checks/bindings.sh runs. The first run is the program's stored one, and
+# the lines of a report are those of a stored run. The code of docs/FIRST_AIR.md is that of the test and what it calls.
 set -eu
 cd "$(dirname "${BASH_SOURCE[0]}")/../.."
 test=crates/batch_tests/src/tests/example.rt
 program=docs/RUST.md
-blocks=$(mktemp -d)
-trap 'rm -r "$blocks"' EXIT
-awk -v folder="$blocks" '/^```rust$/ { n++; on = 1; next } /^```$/ { on = 0 } on { print > (folder "/" n) }' README.md
+room=$(mktemp -d)
+trap 'rm -r "$room"' EXIT
+# Writes each block of code in Rust of the file $1 to a file of its own in the folder $2.
+blocks_of() {
+  mkdir "$2"
+  awk -v folder="$2" '/^```rust$/ { n++; on = 1; next } /^```$/ { on = 0 } on { print > (folder "/" n) }' "$1"
+}
+blocks_of README.md "$room/readme"
 # Whether a block, which is not empty, stands in a file.
 stands_in() {
   local part whole
@@ -17,7 +23,7 @@ stands_in() {
 }
 tested=0
 from_rust=0
-for block in "$blocks"/*; do
+for block in "$room/readme"/*; do
   if stands_in "$block" "$test"; then
     tested=$((tested + 1))
   elif stands_in "$block" "$program"; then
@@ -32,6 +38,23 @@ if [ "$tested" -ne 3 ] || [ "$from_rust" -ne 1 ]; then
   exit 1
 fi
 echo "the README's example is what $test and the program of $program run"
+blocks_of docs/FIRST_AIR.md "$room/first_air"
+grep -v '^use super::' "$test" >"$room/example.rt"
+helpers=crates/batch_tests/src/tests.rt
+for block in "$room/first_air"/*; do
+  if ! stands_in "$block" "$room/example.rt" && ! stands_in "$block" "$helpers"; then
+    echo "a block of docs/FIRST_AIR.md is in neither $test nor $helpers: $(head -n 1 "$block")" >&2
+    exit 1
+  fi
+done
+code=$(cat "$room/first_air"/* | tr -d ' \n')
+for part in 'ghostevaluates=' 'ghostkeeps_layout=' 'ghostnum_public_values=' '#[test]' 'assert!(rt;'; do
+  case $code in
+    *"$part"*) ;;
+    *) echo "docs/FIRST_AIR.md has no $part" >&2 && exit 1 ;;
+  esac
+done
+echo "the code of docs/FIRST_AIR.md is what $test runs"
 run=crates/lookup_run
 rows=$(awk '{ printf "%s\\n", $0 }' "$run/stdin")
 words=$(tr '\n' ' ' <"$run/args")
@@ -39,3 +62,8 @@ first="    printf '$rows' | ./lookup-run ${words% }"
 grep -qxF -- "$first" README.md || { echo "the README does not show the first run: $first" >&2; exit 1; }
 shown=$(grep -A 5 -xF -- "    air 0" README.md | head -n "$(wc -l <"$run/stdout")" | sed 's/^    //')
 [ "$shown" = "$(cat "$run/stdout")" ] || { echo "the README shows another output of the first run" >&2; exit 1; }
+# the lines of a report, below the sentence that names the batch
+report=cases/check/cpu-broken.txt
+awk '/examples\/cpu-broken/ { on = 1 } /^    / && on { print substr($0, 5); met = 1; next } met { exit }' README.md >"$room/report"
+sed -n 's/^> //p' "$report" >"$room/stored"
+stands_in "$room/report" "$room/stored" || { echo "the README shows a report that is not in $report" >&2; exit 1; }

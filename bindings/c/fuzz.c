@@ -380,7 +380,7 @@ static void try_findings(void)
 static const uint32_t unfit[] = {0, VOLGWAIN_DOES_NOT_FIT, VOLGWAIN_DOES_NOT_FIT, VOLGWAIN_OTHER_HEIGHT};
 
 /* The calls under challenges of the caller's own. The laws: generation refuses what does not fit; what is generated
-   satisfies every constraint. */
+   satisfies every constraint; no terminal is accepted over no rows. */
 static void try_air(void)
 {
     static struct volgwain_element auxiliary[CELLS];
@@ -400,6 +400,14 @@ static void try_air(void)
     struct volgwain_air_witness witness = {auxiliary, cells, cells / HEIGHT, out.terminal};
     uint32_t verdict = CALL(verify_air, tables, &in.traces, challenges, 2 * tables->records_length, &witness);
     must(code != 0 || verdict == 0 || verdict == VOLGWAIN_OUT_OF_MEMORY, "what is generated is satisfied");
+    /* over no rows no constraint binds a terminal */
+    struct volgwain_traces no_rows = in.traces;
+    no_rows.main_length = no_rows.preprocessed_length = 0;
+    witness.auxiliary_length = 0;
+    witness.terminal.present = 1;
+    witness.terminal.value = alpha;
+    verdict = CALL(verify_air, tables, &no_rows, challenges, 2 * tables->records_length, &witness);
+    must(verdict != 0, "no terminal is accepted over no rows");
 }
 
 /* The calls on tables and traces. Returns whether there is a witness. The laws: what is proved satisfies all

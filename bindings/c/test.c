@@ -641,6 +641,54 @@ static void check_fits(void)
         "a refused fit is kept");
 }
 
+/* Over a trace without rows no constraint binds a terminal, so one that is 5 would pass. */
+static void check_no_rows(void)
+{
+    struct range one;
+    struct verdict it;
+    make_range(&one);
+    one.traces.main_length = 0;
+    one.auxiliary_length = 0;
+    check_refused(&one, "a lookup over no rows", VOLGWAIN_DOES_NOT_FIT, 0, 0, 0, 0, 0);
+    check_fit(&one, "of which a fit does not tell", VOLGWAIN_FIT_OK, 0, 0, 0, 0, 0);
+    one.traces.preprocessed_length = 3;
+    one.traces.preprocessed_width = 1;
+    check_refused(&one, "a lookup over no rows, before the heights", VOLGWAIN_DOES_NOT_FIT, 0, 0, 0, 0, 0);
+    check(volgwain_generate(&one.tables, &one.traces, NULL, 0, NULL, 0, &one.terminal, &one.refusal, NULL, 0)
+            == VOLGWAIN_DOES_NOT_FIT,
+        "and before the number of challenges");
+    one.challenges[1].c[2] = VOLGWAIN_MODULUS;
+    check_refused(&one, "but after the challenges", VOLGWAIN_BAD_NUMBER, VOLGWAIN_PART_CHALLENGES, 1, 0, 0, 0);
+
+    make_verdict(&it);
+    it.one.traces.main_length = 0;
+    it.witness.auxiliary_length = 0;
+    it.witness.terminal.value.c[0] = 5;
+    check_verdict(&it, "a terminal over no rows", VOLGWAIN_DOES_NOT_FIT, 0, 0, 0, 0);
+    it.witness.terminal.value.c[0] = 0;
+    check_verdict(&it, "also if it is zero", VOLGWAIN_DOES_NOT_FIT, 0, 0, 0, 0);
+    it.witness.terminal.present = 0;
+    it.challenges_length = 0;
+    check_verdict(&it, "and before shape and challenges", VOLGWAIN_DOES_NOT_FIT, 0, 0, 0, 0);
+    it.witness.terminal.value.c[0] = VOLGWAIN_MODULUS;
+    it.witness.terminal.present = 1;
+    check_verdict(
+        &it, "but after the terminal's own number", VOLGWAIN_BAD_NUMBER, VOLGWAIN_PART_TERMINALS, 0, 0, 0);
+
+    /* without lookups there may be none */
+    make_range(&one);
+    one.traces = no_traces;
+    one.tables.records_length = 0;
+    one.auxiliary_length = 0;
+    check(generate(&one) == VOLGWAIN_OK && one.terminal.present == 0, "no lookups and no rows are generated");
+    make_verdict(&it);
+    it.one.traces = no_traces;
+    it.one.tables.records_length = 0;
+    it.witness.auxiliary_length = it.witness.width = 0;
+    it.witness.terminal.present = 0;
+    check(verify_air(&it) == VOLGWAIN_OK, "and verified");
+}
+
 /* ---- two AIRs on a bus: keys 3 and 3, and the entries 3, used twice, and 4, never used ---- */
 
 struct bus {
@@ -906,6 +954,10 @@ static void check_generation_by_ids(void)
     it.traces[1].main_width = 1;
     check_by_ids_refused(&it, "one column", 0, 1, 1, VOLGWAIN_DOES_NOT_FIT, 0, 0, 0, 0);
     make_bus(&it);
+    it.traces[1].main_length = 0;
+    check_by_ids_refused(&it, "no row", 0, 1, 1, VOLGWAIN_DOES_NOT_FIT, 0, 0, 0, 0);
+    check_by_ids_refused(&it, "id 1 of 1 over no row", 1, 1, 1, VOLGWAIN_BAD_NUMBER, VOLGWAIN_PART_IDS, 0, 0, 0);
+    make_bus(&it);
     it.alpha.c[0] = 1;
     check_by_ids_refused(&it, "vanishing", 0, 1, 1, VOLGWAIN_VANISHING_DENOMINATOR, 0, 0, 0, 0);
     make_bus(&it);
@@ -1033,6 +1085,55 @@ static void check_planning(void)
         "a local lookup has its own");
 }
 
+/* a plan is refused because this AIR has a lookup and no row, and nothing is written */
+static void check_rowless(struct bus *it, const char *what, size_t air, size_t room)
+{
+    const struct volgwain_refusal *r = &it->refusal;
+    struct volgwain_plan_sizes sizes = {9, 9};
+    size_t ids[2] = {9, 9};
+    uint32_t answer = plan(it, ids, room, &sizes);
+    check(answer == VOLGWAIN_DOES_NOT_FIT && r->code == answer && r->part == 0 && r->air == air && r->row == 0
+            && r->lookup == 0 && r->expected == 0 && r->actual == 0 && r->text_length > 0,
+        what);
+    check(ids[0] == 9 && ids[1] == 9 && sizes.max_message_width == 9 && sizes.num_ids == 9, what);
+}
+
+static void check_planned_rows(void)
+{
+    static const size_t two[1] = {2}, three[1] = {3};
+    struct bus it;
+    struct volgwain_plan_sizes sizes = {9, 9};
+    size_t ids[2] = {9, 9};
+    make_bus(&it);
+    it.airs[1].height = 0;
+    check_rowless(&it, "a second AIR of height 0", 1, 2);
+    check_rowless(&it, "before the room for one id", 1, 1);
+    it.airs[0].height = 0;
+    check_rowless(&it, "a first AIR of height 0", 0, 2);
+    it.airs[0].ids = it.airs[1].ids = two;
+    it.airs[0].ids_length = it.airs[1].ids_length = 1;
+    check_rowless(&it, "under given ids", 0, 2);
+    it.airs[1].ids = three;
+    check(plan(&it, ids, 2, &sizes) == VOLGWAIN_UNLAWFUL_IDS, "after unlawful ids");
+    make_bus(&it);
+    it.airs[0].height = VOLGWAIN_MODULUS;
+    it.airs[1].height = 0;
+    check(plan(&it, ids, 2, &sizes) == VOLGWAIN_HEIGHT_BOUND && ids[0] == 9 && sizes.num_ids == 9,
+        "after a height of the modulus");
+    it.airs[0].height = 2;
+    it.airs[1].tables.records_length = 0;
+    check(plan(&it, ids, 1, &sizes) == VOLGWAIN_OK && ids[0] == 0 && sizes.num_ids == 1,
+        "without lookups there may be no row");
+    /* the calls over traces refuse the traces */
+    make_bus(&it);
+    it.airs[1].height = 0;
+    it.traces[1].main_length = 0;
+    check_unproved(&it, "traces without rows", VOLGWAIN_TRACE_MISMATCH, 0, 1, 0, 0, 0, 0);
+    memset(it.terminals, 0, sizeof it.terminals);
+    it.terminals[0].present = it.terminals[1].present = 1;
+    check_refused_witness(&it, "which are not verified", verify(&it), VOLGWAIN_TRACE_MISMATCH, 1, 0);
+}
+
 /* Both AIRs with the id 2: with alpha 1 its prefix is 1 + 3 * 2^1 = 7, as that of the one id with alpha 5. */
 static void give_ids(struct bus *it, const size_t *first, const size_t *second)
 {
@@ -1055,7 +1156,7 @@ static void check_unlawful(struct bus *it, const char *what)
 
 static void check_given_ids(void)
 {
-    static const size_t two[2] = {2, 2}, three[1] = {3}, most[1] = {SIZE_MAX};
+    static const size_t two[2] = {2, 2}, three[1] = {3}, most[1] = {SIZE_MAX}, last[1] = {VOLGWAIN_MODULUS - 1};
     struct bus it;
     struct volgwain_plan_sizes sizes = {9, 9};
     size_t ids[2] = {9, 9};
@@ -1084,6 +1185,20 @@ static void check_given_ids(void)
     /* there is no number that it is below */
     give_ids(&it, most, most);
     check_unlawful(&it, "the greatest id");
+
+    /* Of the greatest id of a plan, p - 1, the prefix is alpha + p * 2^1 = alpha. The prefixes up to it would be
+       32 GB. */
+    make_bus(&it);
+    check(prove(&it) == VOLGWAIN_OK && is_proved(&it), "a batch is proved under small ids");
+    it.airs[0].ids = it.airs[1].ids = last;
+    it.airs[0].ids_length = it.airs[1].ids_length = 1;
+    it.alpha.c[0] = 7;
+    check(plan(&it, ids, 2, &sizes) == VOLGWAIN_OK && ids[0] == last[0] && ids[1] == last[0]
+            && sizes.num_ids == VOLGWAIN_MODULUS,
+        "the greatest id that a plan takes");
+    check(verify(&it) == VOLGWAIN_OK, "a witness is verified under it");
+    it.alpha.c[0] = 5;
+    check(verify(&it) == VOLGWAIN_CONSTRAINT_FAILED, "but not as if it were 0");
 }
 
 static uint32_t count(struct bus *it, const struct volgwain_element *alphas, size_t alphas_length,
@@ -2189,6 +2304,17 @@ static void check_refused_rows(void)
     check_both_refused(
         &it, "three rows beside four", VOLGWAIN_OTHER_HEIGHT, VOLGWAIN_PART_PREPROCESSED, 0, 0, 0);
     make_middle(&it);
+    it.around.main_length = 0;
+    check_both_refused(&it, "no row around", VOLGWAIN_DOES_NOT_FIT, 0, 0, 0, 0);
+    it.rows.end = 2;
+    check_both_refused(&it, "nor any in the range", VOLGWAIN_DOES_NOT_FIT, 0, 0, 0, 0);
+    it.air.tables.records_length = 0;
+    it.ids_length = 0;
+    it.around.preprocessed_length = 0;
+    check_both_refused(&it, "nor any lookups", VOLGWAIN_BAD_NUMBER, VOLGWAIN_PART_ROWS, 0, 0, 0);
+    it.rows.end = 4;
+    check_both_refused(&it, "nor lookups around a range", VOLGWAIN_BAD_LENGTH, VOLGWAIN_PART_ROWS, 0, 4, 0);
+    make_middle(&it);
     it.rows.end = 2;
     check_both_refused(&it, "no rows", VOLGWAIN_BAD_NUMBER, VOLGWAIN_PART_ROWS, 0, 0, 0);
     check(has_text(&it.refusal, it.text, "the range has no rows, or ends past the height"),
@@ -2278,6 +2404,60 @@ static void check_refused_witness_rows(void)
     memset(&it.witness.terminal.value, 0, sizeof it.witness.terminal.value);
     check(verify_rows(&it) == VOLGWAIN_TERMINAL_PRESENCE && it.refusal.expected == 0 && it.refusal.actual == 1,
         "a terminal without lookups");
+}
+
+/* The prefix of an id where beta is of the base field: alpha + (id + 1) * beta^2. */
+static struct volgwain_element prefix_of(const struct volgwain_element *alpha, uint32_t beta, uint64_t id)
+{
+    struct volgwain_element prefix = *alpha;
+    uint64_t step = (uint64_t)beta * beta % VOLGWAIN_MODULUS;
+    uint64_t sum = (id + 1) % VOLGWAIN_MODULUS * step + alpha->c[0];
+    prefix.c[0] = (uint32_t)(sum % VOLGWAIN_MODULUS);
+    return prefix;
+}
+
+/* Under ids near 2^40, to which no table of prefixes leads, all is as under the three prefixes worked out here. */
+static void check_great_ids(void)
+{
+    static const size_t great = (size_t)(UINT64_C(1) << 40);
+    struct volgwain_element challenges[6], expected[WIDTH * MOST_HEIGHT];
+    struct volgwain_terminal terminal;
+    struct cut it;
+    int i;
+    if (sizeof(size_t) != 8)
+        return;
+    make_cut(&it, MOST_HEIGHT);
+    it.ids[0] = great;
+    it.ids[1] = 6;
+    it.ids[2] = great - 5;
+    it.sizes.num_ids = great + 1;
+    /* alpha is not of the base field, and all else is: no denominator vanishes */
+    it.beta.c[2] = 0;
+    it.beta.c[0] = 1234567891;
+    for (i = 0; i < 3; i++) {
+        challenges[2 * i] = prefix_of(&it.alpha, it.beta.c[0], it.ids[i]);
+        challenges[2 * i + 1] = it.beta;
+    }
+    check(volgwain_generate(&it.air.tables, &it.traces, challenges, 6, expected, WIDTH * MOST_HEIGHT, &terminal,
+              &it.refusal, it.text, sizeof it.text)
+            == VOLGWAIN_OK,
+        "the trace is generated under prefixes");
+    check(generate_whole(&it) == VOLGWAIN_OK && memcmp(it.whole, expected, sizeof expected) == 0
+            && memcmp(&it.terminal, &terminal, sizeof terminal) == 0,
+        "under great ids the same is generated");
+    take_rows(&it, 0, MOST_HEIGHT);
+    check(generate_rows(&it) == VOLGWAIN_OK && memcmp(it.auxiliary, expected, sizeof expected) == 0
+            && memcmp(&it.sum, &terminal.value, sizeof it.sum) == 0,
+        "and so it is as a range");
+    check(verify_rows(&it) == VOLGWAIN_OK, "which is accepted");
+    take_rows(&it, 2, 4);
+    check(verify_rows(&it) == VOLGWAIN_OK, "as a range within it is");
+    it.ids[0] -= VOLGWAIN_MODULUS;
+    check(verify_rows(&it) == VOLGWAIN_OK, "an id that is less by the modulus has the same prefix");
+    it.ids[0]--;
+    check(verify_rows(&it) == VOLGWAIN_CONSTRAINT_FAILED && it.refusal.row == 2, "another one has not");
+    it.ids[0] = great + 1;
+    check_both_refused(&it, "an id past them", VOLGWAIN_BAD_NUMBER, VOLGWAIN_PART_IDS, 0, 0, 0);
 }
 
 static void check_shifts(void)
@@ -3291,6 +3471,7 @@ int main(void)
     check_air_verification();
     check_refused_air();
     check_fits();
+    check_no_rows();
     check_proving();
     check_air_by_air();
     check_generation_by_ids();
@@ -3298,6 +3479,7 @@ int main(void)
     check_verification();
     check_degrees();
     check_planning();
+    check_planned_rows();
     check_given_ids();
     check_counting();
     check_message_counts();
@@ -3313,6 +3495,7 @@ int main(void)
     check_faults_of_rows();
     check_refused_rows();
     check_refused_witness_rows();
+    check_great_ids();
     check_shifts();
     check_koala_proofs();
     check_koala_plans();

@@ -182,7 +182,9 @@ enum {
     VOLGWAIN_NO_WHOLE_ROWS = 5, /* part, air: the width of a trace does not divide its length, or is 0
                                    where there are cells */
     VOLGWAIN_DOES_NOT_FIT = 6,  /* air: a lookup has lists of different lengths, or reads past the traces, or a
-                                   row that is neither this one nor the next one; volgwain_fit_fault says more */
+                                   row that is neither this one nor the next one; volgwain_fit_fault says more.
+                                   Or there are lookups and no row, in the main trace or by the height in
+                                   volgwain_plan: of that it tells nothing */
     VOLGWAIN_OTHER_HEIGHT = 7,  /* part, air: the preprocessed trace is not as high as the main one */
     VOLGWAIN_VANISHING_DENOMINATOR = 8, /* air, row, lookup */
     VOLGWAIN_FLAG_NOT_BOOLEAN = 9,      /* air, row, lookup */
@@ -260,8 +262,12 @@ struct volgwain_refusal {
    does is said of volgwain_prove. AIRs can be generated on threads of the caller's own, with challenges
    that share an alpha and a beta where lookups share a bus.
 
+   An AIR with lookups needs a row. Over a trace without rows no constraint binds a terminal, so that a prover
+   could claim any.
+
    Refuses, in this order: 2, 5 and 3 of a trace, 3 of the challenges, 6, 7, 4 of the challenges, the first
-   of 8, 9 and 10 in the order row, lookup, and 4 of the auxiliary trace. Or 1. */
+   of 8, 9 and 10 in the order row, lookup, and 4 of the auxiliary trace. Or 1. The answer is 6 also where there
+   are lookups and the main trace has no row. */
 VOLGWAIN_MUST_CHECK uint32_t volgwain_generate(const struct volgwain_tables *tables,
     const struct volgwain_traces *traces,
     const struct volgwain_element *challenges, size_t challenges_length,
@@ -280,9 +286,14 @@ VOLGWAIN_MUST_CHECK uint32_t volgwain_generate(const struct volgwain_tables *tab
    that lookups on one bus share an alpha and a beta and others do not, and that the terminals of a batch sum to
    zero; volgwain_shift adds them up.
 
-   Returns 0 exactly if they do, unless memory runs out. Refuses, in this order: what volgwain_generate does up to
-   3 of the challenges; 5 and 3 of what the witness has; 6, 7 and 4 of the challenges; 17, 18 and 19; and 20, at the
-   first row on which a constraint is not zero. Or 1. */
+   A terminal that passes is the sum of all fractions. For that an AIR with lookups needs at least one row: over
+   none no constraint binds its terminal, and any could be claimed. So whoever adds terminals up relies on the rows,
+   and the call refuses an AIR without them.
+
+   Returns 0 exactly if they do, over traces that fit and have a row for the lookups, unless memory runs out.
+   Refuses, in this order: what volgwain_generate does up to 3 of the challenges; 5 and 3 of what the witness has; 6,
+   7 and 4 of the challenges; 17, 18 and 19; and 20, at the first row on which a constraint is not zero. Or 1. The
+   answer is 6 also where there are lookups and the main trace has no row. */
 VOLGWAIN_MUST_CHECK uint32_t volgwain_verify_air(const struct volgwain_tables *tables,
     const struct volgwain_traces *traces,
     const struct volgwain_element *challenges, size_t challenges_length,
@@ -313,7 +324,8 @@ struct volgwain_fit {
 };
 
 /* Says why the lookups of an AIR do not fit its traces: the first of the reasons above, or that they fit. What is
-   reason 1 or 2 here other calls on one AIR refuse by 6, and what is reason 3 by 7.
+   reason 1 or 2 here other calls on one AIR refuse by 6, and what is reason 3 by 7. They refuse lookups over a main
+   trace without rows by 6 as well, which is no reason here: fit then tells of the columns alone.
 
    fit: all of it is written.
 
@@ -394,7 +406,11 @@ VOLGWAIN_MUST_CHECK uint32_t volgwain_read_json(const char *json, size_t json_le
 
    Where no AIR of a batch has ids, the plan gives them. Where one has, those of all AIRs are taken, so that a
    witness can be made and verified under the ids of another prover. Then each lookup needs one, lookups on one
-   bus share an id, also across AIRs, and no others do; there are as many ids as the greatest of them and one. */
+   bus share an id, also across AIRs, and no others do; there are as many ids as the greatest of them and one.
+
+   volgwain_prove and volgwain_grid_count make a prefix of 16 bytes for each number below that many, in use or not:
+   with an id near 2^30 these are 16 GB. No other call does. So under great ids a witness is made AIR by AIR, by
+   volgwain_generate_by_ids, or range by range. */
 struct volgwain_air {
     struct volgwain_tables tables;
     size_t height;
@@ -415,7 +431,11 @@ struct volgwain_plan_sizes {
 
    ids: one for each lookup, AIR by AIR.
 
-   Refuses, in this order: 2 and 11 of an AIR, 12, 13, 28, 14, 15, and 4 of the ids. Or 1. */
+   An AIR with lookups needs a row, since over none no constraint binds its terminal. The other calls that plan a
+   batch do not look at that in the heights; those over traces refuse such an AIR by 16.
+
+   Refuses, in this order: 2 and 11 of an AIR, 12, 13, 28, 14, 15, 6 of an AIR with lookups and the height 0, and
+   4 of the ids. Or 1. */
 VOLGWAIN_MUST_CHECK uint32_t volgwain_plan(const struct volgwain_air *airs, size_t airs_length,
     size_t *ids, size_t ids_length,
     struct volgwain_plan_sizes *sizes,
@@ -423,14 +443,16 @@ VOLGWAIN_MUST_CHECK uint32_t volgwain_plan(const struct volgwain_air *airs, size
 
 /* Generates the auxiliary trace of one AIR of a planned batch, and its terminal, as volgwain_generate does.
 
-   ids: those of the AIR's lookups, in their order, as volgwain_plan gave them; sizes: those of the plan.
+   ids: those of the AIR's lookups, in their order, as volgwain_plan gave them; sizes: those of the plan. Only the
+   prefixes of these ids are made, so memory and time do not grow with the ids or with num_ids.
    auxiliary: exactly height * (lookups + 1) elements.
 
    With what volgwain_plan gave, the AIRs of a batch can be generated on threads of the caller's own. That
    together they are the witness of volgwain_prove is only tested.
 
    Refuses, in this order: 2, 5 and 3 of a trace, 3 of alpha and then beta, 4 of the ids, 3 of the sizes, 3 of
-   an id, 6, 7, the first of 8, 9 and 10 in the order row, lookup, and 4 of the auxiliary trace. Or 1. */
+   an id, 6, 7, the first of 8, 9 and 10 in the order row, lookup, and 4 of the auxiliary trace. Or 1. The answer
+   is 6 also where there are lookups and the main trace has no row. */
 VOLGWAIN_MUST_CHECK uint32_t volgwain_generate_by_ids(const struct volgwain_tables *tables,
     const struct volgwain_traces *traces,
     const size_t *ids, size_t ids_length, const struct volgwain_plan_sizes *sizes,
@@ -511,7 +533,8 @@ VOLGWAIN_MUST_CHECK uint32_t volgwain_soundness_count(const struct volgwain_air 
 /* The counts of a batch by its heights. most_messages: the most messages M that there can be, the height times
    the messages of a row, over all AIRs. A row has one message for each lookup with flags, and each tuple of
    every other lookup. bad_betas: W * (M - 1), or 0 if M is 0, where W is the width of the plan. bounded is 0 if
-   M is 0, so that every batch balances, and otherwise 1; then accepting_alphas is 2 * M - 1. */
+   M is 0, so that every batch balances, and otherwise 1; then accepting_alphas is 2 * M - 1. No traces fit an
+   AIR with lookups and height 0: of a batch with one nothing is said. */
 struct volgwain_height_counts {
     struct volgwain_wide most_messages;
     struct volgwain_wide bad_betas;
@@ -642,7 +665,8 @@ struct volgwain_rows {
    Refuses, in this order: what volgwain_generate_by_ids does up to 7; 3 of the rows, which must have first below
    end, and end not above the height; 4 of the rows, where around has another height than there are rows around
    the range; the first of 8, 9 and 10 on the rows of the range, in the order row, lookup, where row is that of
-   the whole trace; and 4 of the auxiliary trace. Or 1. */
+   the whole trace; and 4 of the auxiliary trace. Or 1. The answer is 6 also where there are lookups and around has
+   no row at all. */
 VOLGWAIN_MUST_CHECK uint32_t volgwain_generate_rows(const struct volgwain_tables *tables,
     const struct volgwain_traces *around,
     const struct volgwain_rows *rows,
@@ -668,12 +692,18 @@ VOLGWAIN_MUST_CHECK uint32_t volgwain_shift(struct volgwain_element *cells, size
    terminal of the whole trace.
 
    Where ranges of one trace and one auxiliary trace cover all rows, and each is accepted with the same terminal,
-   every constraint of the AIR is zero on every row of the whole trace. The caller sees to it that height is that
-   of the plan, and that the terminals of a batch sum to zero.
+   every constraint of the AIR is zero on every row of the whole trace. On an accepted range the fractions lead from
+   the accumulator on its first row to that on the row after it. On row 0 the accumulator is zero, and after the last
+   row of the trace the terminal stands in its place.
+
+   The caller sees to it that height is that of the plan, and that the terminals of a batch sum to zero. Each AIR
+   with lookups needs at least one row, as volgwain_plan wants it: where there is none, there is no range, and
+   nothing binds the terminal.
 
    Returns 0 exactly if they are zero, unless memory runs out. Refuses, in this order: what
    volgwain_generate_rows does up to 4 of the rows; 5 and 3 of what the witness has; 17, 18 and 19; and 20, at
-   the first row of the range on which a constraint is not zero, under its number in the whole trace. Or 1. */
+   the first row of the range on which a constraint is not zero, under its number in the whole trace. Or 1. The
+   answer is 6 also where there are lookups and around has no row at all. */
 VOLGWAIN_MUST_CHECK uint32_t volgwain_verify_rows(const struct volgwain_tables *tables,
     const struct volgwain_traces *around,
     const struct volgwain_rows *rows,

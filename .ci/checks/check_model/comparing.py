@@ -1,7 +1,8 @@
 """Runs of the program beside those of the model, and the stored cases."""
 import functools
 import os
-from importlib import machinery, util
+
+from cases import cases_of
 
 from .model import answer
 from .running import FILE, Answer, answer_of, differences, written
@@ -42,11 +43,8 @@ def compared(program, folder, what, files, words=("check",)):
 @functools.cache
 def cases():
     """The runs of cases/check, each with its place and the answer that it has to give."""
-    loader = machinery.SourceFileLoader("run_cases", f"{TOP}/tools/run-cases")
-    module = util.module_from_spec(util.spec_from_loader("run_cases", loader))
-    loader.exec_module(module)
     names = sorted(os.listdir(f"{TOP}/cases/check"))
-    found = [(name, *it) for name in names for it in module.cases_of(f"{TOP}/cases/check/{name}")]
+    found = [(name, *it) for name in names for it in cases_of(f"{TOP}/cases/check/{name}")]
     return [(f"{name}:{place}", case, status) for name, place, case, status in found]
 
 

@@ -1,7 +1,8 @@
 """The runs of `lookup_run` that cases/ lists, with each request for memory refused in turn."""
 import functools
 import os
-from importlib import machinery, util
+
+from cases import cases_of
 
 from .runs import HERE, swept
 
@@ -12,11 +13,8 @@ REFUSED = (2, b"", b"error: out of memory\n")
 @functools.cache
 def cases():
     """The runs of cases/, with the status that each has to end with."""
-    loader = machinery.SourceFileLoader("run_cases", f"{TOP}/tools/run-cases")
-    module = util.module_from_spec(util.spec_from_loader("run_cases", loader))
-    loader.exec_module(module)
     files = sorted(name for name in os.listdir(f"{TOP}/cases") if name.endswith(".txt"))
-    return [it for name in files for it in module.cases_of(f"{TOP}/cases/{name}")]
+    return [it for name in files for it in cases_of(f"{TOP}/cases/{name}")]
 
 
 def case_swept(shim, program, place, later):

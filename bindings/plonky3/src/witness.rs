@@ -19,9 +19,9 @@ pub type AirWitness<F> = (RowMajorMatrix<Extension<F>>, Option<LookupTerminal<Ex
 /// challenges. So a prover's own auxiliary trace can be compared with it, whatever ids and challenges
 /// the prover has.
 ///
-/// Refuses lookups as [`from_p3`] does, traces that they do not fit, too few challenges, and then the
-/// first row and lookup with a flag that is not 0 or 1, two flags that are set, or a denominator that
-/// vanishes.
+/// Refuses lookups as [`from_p3`] does, traces that they do not fit or that have no row for them, and too
+/// few challenges. Then it refuses the first row and lookup with a flag that is not 0 or 1, two flags that
+/// are set, or a denominator that vanishes.
 pub fn generate_permutation<F: SharedField>(
     main: &RowMajorMatrix<F>,
     preprocessed: &Option<RowMajorMatrix<F>>,
@@ -42,8 +42,12 @@ pub fn generate_permutation<F: SharedField>(
 /// lookups on one bus share their challenges and others do not, and that the terminals of all AIRs sum
 /// to zero (`LogUpGadget::verify_terminal_sum`), is for the caller to see to.
 ///
-/// Refuses lookups as [`from_p3`] does, traces that they do not fit, and too few challenges. Then the
-/// answer is the first fault of the part: its shape, or the first row on which a constraint fails.
+/// A terminal that passes is the sum of all fractions. Over a trace without rows no constraint binds one,
+/// so that any could be claimed: there lookups are refused.
+///
+/// Refuses lookups as [`from_p3`] does, traces that they do not fit or that have no row for them, and too
+/// few challenges. Then the answer is the first fault of the part: its shape, or the first row on which a
+/// constraint fails.
 pub fn verify_permutation<F: SharedField>(
     main: &RowMajorMatrix<F>,
     preprocessed: &Option<RowMajorMatrix<F>>,
@@ -67,7 +71,7 @@ fn pairs_of<F: SharedField>(challenges: &[Extension<F>]) -> Vec<[Element<F::Ours
 }
 
 /// For each AIR the challenges that `LogUpGadget` needs to make what [`Batch::prove`] makes: for each
-/// lookup the prefix of its id, and beta.
+/// lookup the prefix of its id, and beta. It makes a prefix of 16 bytes for each id up to the greatest.
 pub fn challenges<F: SharedField>(
     batch: &Batch<F::Ours>,
     alpha: Extension<F>,

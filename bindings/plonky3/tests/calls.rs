@@ -194,3 +194,17 @@ fn a_part_is_verified_under_challenges_of_its_own() {
     let refused = verify_permutation(&main, &None, &[], &moved, &own, &part);
     assert_eq!(refused, Err(Error::Column { lookup: 0, column: 2 }));
 }
+
+/// Over no rows no constraint binds a terminal, so that any would pass.
+#[test]
+fn a_part_without_rows_is_refused() {
+    let (none, lookups) = (trace(&[]), [keys()]);
+    let own = [[7, 0, 1, 0], [2, 5, 0, 0]].map(|it| element_to_p3::<F>(Element::new(it)));
+    let mut part = generate_permutation(&trace(&[3, 1]), &None, &[], &lookups, &own).unwrap();
+    part.0.values.clear();
+    let made = generate_permutation(&none, &None, &[], &lookups, &own).map(|_| ());
+    for refused in [made, verify_permutation(&none, &None, &[], &lookups, &own, &part)] {
+        let Err(Error::Refused(error)) = refused else { panic!("there is no row") };
+        assert_eq!((error.code(), error.air()), (Code::DoesNotFit, Some(0)));
+    }
+}

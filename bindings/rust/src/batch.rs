@@ -15,7 +15,8 @@ use std::iter::{self, zip};
 /// AIRs with the heights of their traces, and the plan that they make before any trace is seen.
 ///
 /// Lookups on one bus share an id, also across AIRs, and each local lookup has an id of its own.
-/// All tuples under one id have one width, and weights times heights stay below the modulus.
+/// All tuples under one id have one width, and weights times heights stay below the modulus. Each AIR
+/// with lookups has a row.
 ///
 /// The traces that its calls take are one for each AIR, of its height and with all that its lookups
 /// read; but [`generate`](Batch::generate), [`debug_check`](Batch::debug_check),
@@ -76,7 +77,11 @@ impl<F: Field> Batch<F> {
     /// The batch of these AIRs, each with the height of its traces.
     ///
     /// Refuses tuples of two widths on one bus or in a local lookup, more ids than the field has
-    /// whole numbers, and weights times heights that reach the modulus.
+    /// whole numbers, and weights times heights that reach the modulus. Then it refuses the first AIR
+    /// that has lookups and the height 0 ([`Code::DoesNotFit`]): over no rows no constraint binds its
+    /// terminal.
+    ///
+    /// [`Code::DoesNotFit`]: crate::Code::DoesNotFit
     pub fn new<'a>(airs: impl IntoIterator<Item = (&'a Air<F>, usize)>) -> Result<Self, Error> {
         let (airs, heights): (Vec<Air<F>>, Vec<usize>) =
             airs.into_iter().map(|(air, height)| (air.clone(), height)).unzip();
@@ -90,6 +95,10 @@ impl<F: Field> Batch<F> {
     /// Lookups on one bus share an id, also across AIRs, and no others do. There are as many ids as
     /// the greatest of them and one. Refuses other ids ([`Code::UnlawfulIds`]), and what
     /// [`new`](Batch::new) does.
+    ///
+    /// [`prove`](Batch::prove) on one thread and [`grid_count`](Batch::grid_count) make a prefix of 16
+    /// bytes for each id up to the greatest, in use or not. With ids near 2^30 these are 16 GB. All
+    /// other calls make those of the ids in use alone; so does [`generate`](Batch::generate), AIR by AIR.
     ///
     /// ```
     /// use volgwain::{Air, Batch, Code, Expr, Lookup, Message};
@@ -227,10 +236,11 @@ impl<F: Field> Batch<F> {
     /// by many threads. The witness is that of this AIR alone; [`Witness::new`] joins them.
     ///
     /// Refuses an index past the last AIR ([`Code::NoSuchAir`]), traces that its lookups do not
-    /// fit, and then what `prove` refuses. It does not compare the height of the traces with that
-    /// of the batch.
+    /// fit or that have no row for them ([`Code::DoesNotFit`]), and then what `prove` refuses. It
+    /// does not compare the height of the traces with that of the batch.
     ///
     /// [`Code::NoSuchAir`]: crate::Code::NoSuchAir
+    /// [`Code::DoesNotFit`]: crate::Code::DoesNotFit
     pub fn generate(
         &self,
         air: usize,

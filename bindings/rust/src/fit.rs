@@ -5,6 +5,7 @@ use crate::ffi::Fit;
 use std::fmt;
 
 /// Why the lookups of an AIR do not fit its traces. Of several reasons it is the first one in this order.
+/// That the main trace has no row is none of them.
 #[derive(Clone, Copy, Debug, PartialEq, Eq, Hash)]
 #[non_exhaustive]
 pub enum FitFault {

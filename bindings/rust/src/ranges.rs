@@ -49,8 +49,9 @@ impl<F: Field> TracedAir<'_, F> {
     }
 
     /// Whether ranges see all that the call on the whole batch looks at. The rows of both traces are whole
-    /// and equally many. Where there are no lookups there are no ranges, and the numbers are tested here;
-    /// where there are lookups, there has to be a row.
+    /// and equally many. Where there are no lookups there are no ranges, and the numbers are tested here.
+    /// Where there are lookups there is a row: a batch has no other AIRs, and an AIR that is generated alone
+    /// over no rows has no cells to share out.
     fn is_plain(&self) -> bool {
         let Traces { main, preprocessed, public_values } = self.traces;
         let AuxiliaryShape { height, lookups } = self.shape();
@@ -62,11 +63,7 @@ impl<F: Field> TracedAir<'_, F> {
         let are_small = |numbers: &[u32]| numbers.iter().all(|number| *number < F::MODULUS);
         is_whole(main)
             && (is_missing || is_whole(other))
-            && if lookups == 0 {
-                [main.cells, other.cells, public_values].into_iter().all(are_small)
-            } else {
-                height > 0
-            }
+            && (lookups > 0 || [main.cells, other.cells, public_values].into_iter().all(are_small))
     }
 
     /// Whether what a witness has for the AIR is of its shape.

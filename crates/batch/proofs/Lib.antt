@@ -4,6 +4,7 @@ pub mod Greatest
 pub mod HeightCounts
 pub mod IdCounts
 pub mod LawfulPlans
+pub mod MadeTables
 pub mod Members
 pub mod OneWidths
 pub mod PackedPlans

@@ -1,5 +1,5 @@
 //! Plans of batches.
-ghost use Rattle.std.specs.Prelude.{◌≡◌, ◌≤◌, MatchResult, length, map};
+ghost use Rattle.std.specs.Prelude.{◌≡◌, MatchResult, length, map};
 ghost use Rattle.std.specs.List.{AllZip};
 ghost use Rattle.batch.specs.PlanFacts.{IsPlan};
 ghost use Rattle.batch.specs.Plans.{plan_with};
@@ -18,8 +18,8 @@ use crate::reach::{Reach, reaches_of};
 use crate::trace::BatchTrace;
 use crate::widths::{check_airs, widest_tuple};
 use checker::{
-    BatchInstance, SoundnessCount, Witness, accepted_is_accepting, check_result, counted_soundness,
-    generate_batch, linear_soundness, packing_keeps_batch, results_join, soundness_count,
+    BatchInstance, SoundnessCount, Witness, check_in_columns, counted_soundness, generate_batch,
+    linear_soundness, packing_keeps_batch, results_join, soundness_count,
 };
 use field::{ExtensionField, Field, Over};
 use lookup::{
@@ -61,8 +61,6 @@ impl<F: Field> BatchPlan<F> {
     ghost use Rattle.batch.specs.Plans.{FitPlan, IsMisfit, plan_batch};
     ghost use Rattle.checker.specs.Answers.{ChecksWitness};
     ghost use Rattle.lookup_model.specs.Batches.Witnesses.{HasOneOfEach, results_of};
-    ghost use Rattle.lookup_model.specs.Challenges.{table_of};
-    ghost use Rattle.std.specs.Box.{boxed_slice_items};
     ghost use Rattle.batch.specs.internal.PlanBatches.{MakesPlanBatch};
     ghost use Rattle.batch.specs.Runs.{PassIsCounted, Proves, ProvesBalanced, ProvesRegular, ProvesSatisfied, RefusesOnlyUnaccepted, Verifies, VerifiesOnlyPlain, plan_of, run_of};
     ghost use Rattle.batch.specs.SoundnessCounts.{CountsLinearly, CountsPlan, CountsSoundly};
@@ -100,6 +98,9 @@ impl<F: Field> BatchPlan<F> {
     /// id of each lookup. There are prefixes for `num_ids` ids, and the width of messages is that
     /// of [`new`](BatchPlan::new). So a witness of another prover is verified under the ids that it was made
     /// with.
+    ///
+    /// `prove` and `grid_count` make a prefix for each number below `num_ids`, so great ids take much memory
+    /// there; `verify` makes those of the ids in use alone.
     ///
     /// Refuses the first of these that fails:
     ///
@@ -240,10 +241,8 @@ impl<F: Field> BatchPlan<F> {
     {
         self.check_traces(traces)?;
         check_counts(self.airs.len(), witness)?;
-        let challenges = Challenges::new(alloc, alpha, beta, self.max_message_width, self.num_ids)?;
         results_join::<F, EF>();
-        self.check_results(alloc, traces, &challenges, witness)?;
-        accepted_is_accepting::<F, EF>();
+        self.check_results(alloc, traces, alpha, beta, witness)?;
         counted_soundness::<F, EF>();
         linear_soundness::<F, EF>();
         Ok(())
@@ -360,27 +359,29 @@ impl<F: Field> BatchPlan<F> {
         )
     }
 
-    /// Whether a witness of the batch over these traces is accepted, as
-    /// [`check_witness`](checker::check_witness) says it. Each AIR is checked alone: no list of instances is
-    /// made.
+    /// Whether a witness of the batch over these traces is accepted at alpha and beta, as
+    /// [`check_witness`](checker::check_witness) says it. Each AIR is checked alone, with the prefixes of its own
+    /// ids: no list of instances is made, and no table.
     fn check_results<EF: ExtensionField<F>>(
         &self,
         alloc: Global,
         traces: &[BatchTrace<'_, F>],
-        challenges: &Challenges<EF>,
+        alpha: EF,
+        beta: EF,
         witness: &Witness<EF>,
     ) -> Result<(), LookupError>
         requires traces { FitPlan (plan_of self.now) traces.now }
         requires parts { HasOneOfEach (plan_batch (plan_of self.now) traces.now) witness.now }
-        requires prefixes { self.now.num_ids ≤ length (boxed_slice_items challenges.now.bus_prefix) }
-        ensures { ChecksWitness ⟦<EF as Over<F>>⟧.fields (table_of challenges.now)
-            (plan_batch (plan_of self.now) traces.now) (results_of witness.now) result }
+        ensures { let run = run_of ⟦<EF as Over<F>>⟧.fields (plan_of self.now) traces.now alpha beta in
+            ChecksWitness run.fields run.table run.batch (results_of witness.now) result }
     {
         results_join::<F, EF>();
+        let width = self.max_message_width;
         for air in 0..self.airs.len() {
             let instance = air_over(&self.airs[air], &self.ids[air], &traces[air]);
             let (aux, terminal) = (&witness.aux[air], &witness.terminals[air]);
-            check_result(alloc, air, &instance, challenges, aux, terminal)?;
+            let challenges = Challenges::for_ids(alloc, alpha, beta, width, instance.ids)?;
+            check_in_columns(alloc, air, &instance, &challenges, aux, terminal)?;
         }
         LogUpGadget::new().verify_terminal_sum(witness.terminals.as_slice())
     }

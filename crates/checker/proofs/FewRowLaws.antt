@@ -2,16 +2,13 @@
 use Rattle.std.proofs.Common.{◌≡◌, ◌+◌, ◌%◌, ◌*◌, ◌==◌, not, ℕ, List, Some, slice_index_or, subst, subst₂, sym}
 use Rattle.std.specs.List.{AllByRecursion}
 use Rattle.matrix.specs.Matrix.{Matrix, height, row}
-use Rattle.air.specs.Traces.{height_of, window_of}
+use Rattle.air.specs.Traces.{AirTraces, height_of, window_of}
 use Rattle.expressions.specs.Window.{ExtWindow, Window}
 use Rattle.field.specs.Extension.{Extension}
-use Rattle.lookup_model.specs.Batches.Instances.{Instance}
-use Rattle.lookup_model.specs.Batches.Refusals.{HoldsAt}
-use Rattle.lookup_model.specs.Challenges.{ChallengeTable, column_challenges}
 use Rattle.lookup_model.specs.Constraints.{fraction_left}
 use Rattle.lookup_model.specs.Denominators.{tuple_denominator}
 use Rattle.lookup_model.specs.Sent.{branches_at, flags_at}
-use Rattle.lookup_model.specs.Witness.{witness_window}
+use Rattle.lookup_model.specs.Witness.{HoldsOnRow, witness_window}
 use Rattle.lookup_model.specs.declared.types.Lookup.{Lookup}
 use Rattle.lookup_model.specs.declared.types.LookupTerminal.{LookupTerminal}
 use Rattle.checker.specs.internal.Rows.{AccumulatorHoldsAt, FractionHoldsAt, accumulator_window}
@@ -35,10 +32,10 @@ module _ {F K : Type 0} (E : Extension F K) (w : ExtWindow F K) (lookup : Lookup
       subst₂ (λ (a b : K). IsZeroWith a b fraction) (sym alpha_is) (sym beta_is)
       (subst (IsZeroWith (slice_index_or w.challenges (2 * lookup.column) E.ring.zero) (slice_index_or w.challenges (2 * lookup.column + 1) E.ring.zero)) (sym fraction_is) holds)
 
-module _ {F K : Type 0} (E : Extension F K) (table : ChallengeTable K) (i : Instance F) (auxiliary : Matrix K) (terminal : LookupTerminal K) (r : ℕ) (high : height auxiliary ≡ height_of i.traces) where
+module _ {F K : Type 0} (E : Extension F K) (traces : AirTraces F) (lookups : List (Lookup F)) (challenges : List K) (auxiliary : Matrix K) (terminal : LookupTerminal K) (r : ℕ) (high : height auxiliary ≡ height_of traces) where
   -- the window of the row with the challenges of the columns
   abbrev window : ExtWindow F K
-  window = witness_window i.traces (column_challenges table i.ids) auxiliary (Some terminal) r
+  window = witness_window traces challenges auxiliary (Some terminal) r
 
   -- it has what the accumulator's constraints read
   parts_are : parts_of E (accumulator_window {F = F} auxiliary terminal.0 r) ≡ parts_of E window
@@ -51,19 +48,19 @@ module _ {F K : Type 0} (E : Extension F K) (table : ChallengeTable K) (i : Inst
     terminal = terminal.0;
   }
 
-  pub accumulator_from : HoldsAt E table i (auxiliary, Some terminal) r → AccumulatorHoldsAt E (accumulator_window auxiliary terminal.0 r) i.lookups
+  pub accumulator_from : HoldsOnRow E traces lookups challenges auxiliary (Some terminal) r → AccumulatorHoldsAt E (accumulator_window auxiliary terminal.0 r) lookups
   accumulator_from holds =
-      accumulator_alike E window (accumulator_window auxiliary terminal.0 r) (sym parts_are) i.lookups (both_from E window i.lookups holds).0
+      accumulator_alike E window (accumulator_window auxiliary terminal.0 r) (sym parts_are) lookups (both_from E window lookups holds).0
 
-  module _ (base : Window F) (cells : List K) (base_is : base ≡ window_of i.traces r) (cells_are : cells ≡ row auxiliary r) where
+  module _ (base : Window F) (cells : List K) (base_is : base ≡ window_of traces r) (cells_are : cells ≡ row auxiliary r) where
     -- all constraints hold if the accumulator's and those of the fractions do, and only then
-    pub row_from : AccumulatorHoldsAt E (accumulator_window auxiliary terminal.0 r) i.lookups → AllByRecursion (FractionHoldsAt E (window_over base cells (column_challenges table i.ids))) i.lookups → HoldsAt E table i (auxiliary, Some terminal) r
+    pub row_from : AccumulatorHoldsAt E (accumulator_window auxiliary terminal.0 r) lookups → AllByRecursion (FractionHoldsAt E (window_over base cells challenges)) lookups → HoldsOnRow E traces lookups challenges auxiliary (Some terminal) r
     row_from accumulator fractions =
-        holds_from E window i.lookups (
-          accumulator_alike E (accumulator_window auxiliary terminal.0 r) window parts_are i.lookups accumulator,
-          subst₂ (λ (b : Window F) (cs : List K). AllByRecursion (FractionHoldsAt E (window_over b cs (column_challenges table i.ids))) i.lookups) base_is cells_are fractions,
+        holds_from E window lookups (
+          accumulator_alike E (accumulator_window auxiliary terminal.0 r) window parts_are lookups accumulator,
+          subst₂ (λ (b : Window F) (cs : List K). AllByRecursion (FractionHoldsAt E (window_over b cs challenges)) lookups) base_is cells_are fractions,
         )
 
-    pub fractions_from : HoldsAt E table i (auxiliary, Some terminal) r → AllByRecursion (FractionHoldsAt E (window_over base cells (column_challenges table i.ids))) i.lookups
+    pub fractions_from : HoldsOnRow E traces lookups challenges auxiliary (Some terminal) r → AllByRecursion (FractionHoldsAt E (window_over base cells challenges)) lookups
     fractions_from holds =
-        subst₂ (λ (b : Window F) (cs : List K). AllByRecursion (FractionHoldsAt E (window_over b cs (column_challenges table i.ids))) i.lookups) (sym base_is) (sym cells_are) (both_from E window i.lookups holds).1
+        subst₂ (λ (b : Window F) (cs : List K). AllByRecursion (FractionHoldsAt E (window_over b cs challenges)) lookups) (sym base_is) (sym cells_are) (both_from E window lookups holds).1

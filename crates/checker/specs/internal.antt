@@ -1,5 +1,4 @@
 -- What contracts of private functions and proofs are stated with. No public contract rests on it.
-pub mod Checks
 pub mod Collected
 pub mod Identified
 pub mod Products

@@ -1,13 +1,13 @@
 //! The check of one AIR under given challenges.
-ghost use Rattle.std.specs.Prelude.{◌≤◌, ◌*◌, Some, length};
-ghost use Rattle.air.specs.Traces.{layout_of, traces_of};
-ghost use Rattle.checker.specs.Columns.{ChecksColumns, without_ids};
-ghost use Rattle.lookup_model.specs.Batches.Refusals.{HasShapeAt};
+ghost use Rattle.std.specs.Prelude.{◌<◌, ◌≤◌, ◌*◌, length};
+ghost use Rattle.air.specs.Traces.{height_of, layout_of, traces_of};
+ghost use Rattle.checker.specs.Columns.{ChecksColumns, HasColumns};
+ghost use Rattle.lookup_model.specs.Batches.Instances.{instance_of};
 ghost use Rattle.lookup_model.specs.Records.{LookupsFit};
 
-use crate::chunks::chunks_hold_until;
+use crate::rows::columns_hold_until;
 use crate::witness::check_shape;
-use air::{RowInputs, Traces};
+use air::Traces;
 use field::{ExtensionField, Field, Over};
 use lookup::{Lookup, LookupError, LookupTerminal};
 use lookup_model::BatchInstance;
@@ -20,8 +20,10 @@ use std::alloc::Global;
 /// So the part of a witness can be checked that a prover made under challenges of its own, whatever ids it
 /// has; [`check_witness`](crate::check_witness) takes them from a table by ids. That lookups on one bus
 /// share an alpha and a beta and others do not, and that the terminals of a batch sum to zero, is for the
-/// caller to see to. Requires lookups that fit the traces. Refuses the first of these, where the AIR has
-/// number 0:
+/// caller to see to. Where there are lookups, the terminal of what passes is the sum of all its fractions.
+///
+/// Requires lookups that fit the traces, and a row if there are lookups: without a row no constraint binds
+/// the terminal. Refuses the first of these, where the AIR has number 0:
 ///
 /// - `TerminalPresenceMismatch`, `PermutationWidthMismatch`, `PermutationHeightMismatch`, as
 ///   [`check_shape`] does;
@@ -37,9 +39,10 @@ pub fn check_columns<F: Field, EF: ExtensionField<F>>(
     terminal: &Option<LookupTerminal<EF>>,
 ) -> Result<(), LookupError>
     requires fit { LookupsFit (layout_of (traces_of traces.now)) lookups.now }
+    requires nonempty { 0 < length lookups.now → 0 < height_of (traces_of traces.now) }
     requires challenges { 2 * length lookups.now ≤ length challenges.now }
     ensures { ChecksColumns ⟦<EF as Over<F>>⟧.fields (traces_of traces.now) lookups.now
-        challenges.now (aux.now, terminal.now) result }
+        challenges.now (aux.now, terminal.now) 0 result }
 {
     let instance = BatchInstance {
         lookups,
@@ -48,42 +51,29 @@ pub fn check_columns<F: Field, EF: ExtensionField<F>>(
         public_values: traces.public_values,
         ids: &[],
     };
-    check_shape(0, &instance, aux, terminal)?;
-    match terminal {
-        None => Ok(()),
-        Some(terminal) => check_rows(alloc, traces, lookups, challenges, aux, *terminal),
-    }
+    check_in_columns(alloc, 0, &instance, challenges, aux, terminal)
 }
 
-/// Whether every constraint is zero on each row.
-fn check_rows<F: Field, EF: ExtensionField<F>>(
+/// The same of AIR number `air` of a batch. The ids of the instance are ignored.
+pub fn check_in_columns<F: Field, EF: ExtensionField<F>>(
     alloc: Global,
-    traces: &Traces<'_, F>,
-    lookups: &[Lookup<F>],
+    air: usize,
+    instance: &BatchInstance<'_, F>,
     challenges: &[EF],
     aux: &RowMajorMatrix<EF>,
-    terminal: LookupTerminal<EF>,
+    terminal: &Option<LookupTerminal<EF>>,
 ) -> Result<(), LookupError>
-    requires fit { LookupsFit (layout_of (traces_of traces.now)) lookups.now }
-    requires challenges { 2 * length lookups.now ≤ length challenges.now }
-    requires shape { HasShapeAt (without_ids (traces_of traces.now) lookups.now)
-        (aux.now, Some terminal) }
-    ensures { ChecksColumns ⟦<EF as Over<F>>⟧.fields (traces_of traces.now) lookups.now
-        challenges.now (aux.now, Some terminal) result }
+    requires columns { HasColumns (instance_of instance.now) challenges.now }
+    requires nonempty { let i = instance_of instance.now in 0 < length i.lookups → 0 < height_of i.traces }
+    ensures { let i = instance_of instance.now in
+        ChecksColumns ⟦<EF as Over<F>>⟧.fields i.traces i.lookups challenges.now
+        (aux.now, terminal.now) air result }
 {
-    let values = [terminal.0];
-    let inputs = RowInputs {
-        main: traces.main,
-        preprocessed: traces.preprocessed,
-        public_values: traces.public_values,
-        permutation: aux,
-        challenges,
-        permutation_values: &values,
-    };
-    let height = traces.main.height();
-    let row = chunks_hold_until(alloc, &inputs, lookups, 0, height)?;
+    check_shape(air, instance, aux, terminal)?;
+    let height = instance.main.height();
+    let row = columns_hold_until(alloc, instance, challenges, aux, terminal, 0, height)?;
     if row < height {
-        return Err(LookupError::ConstraintFailed { air: 0, row });
+        return Err(LookupError::ConstraintFailed { air, row });
     }
     Ok(())
 }

@@ -1,15 +1,13 @@
 //! Up to which row all constraints are zero, row by row.
-ghost use Rattle.std.specs.Prelude.{◌≡◌, ◌↔◌, ◌<◌, ◌≤◌, All, IsTrue, None, Some, length};
-ghost use Rattle.std.specs.Box.{boxed_slice_items};
+ghost use Rattle.std.specs.Prelude.{◌≡◌, ◌↔◌, ◌<◌, ◌≤◌, ◌*◌, IsTrue, None, Some, length};
 ghost use Rattle.std.specs.List.{AllByRecursion};
 ghost use Rattle.air.specs.Traces.{height_of};
-ghost use Rattle.checker.specs.Ranges.{RowsHoldUntil};
+ghost use Rattle.checker.specs.Columns.{ColumnsHoldUntil, HasColumns};
 ghost use Rattle.checker.specs.internal.Quotients.{IsQuotientOf};
 ghost use Rattle.checker.specs.internal.Rows.{FractionHoldsAt};
 ghost use Rattle.checker.specs.internal.TraceRows.{FractionFits, trace_layout, trace_window, window_over};
-ghost use Rattle.lookup_model.specs.Batches.Instances.{HasPrefixes, IsFitting, instance_of};
+ghost use Rattle.lookup_model.specs.Batches.Instances.{instance_of};
 ghost use Rattle.lookup_model.specs.Batches.Refusals.{HasShapeAt};
-ghost use Rattle.lookup_model.specs.Challenges.{column_challenges, table_of};
 ghost use Rattle.lookup_model.specs.Denominators.{tuple_denominator};
 ghost use Rattle.lookup_model.specs.Records.{AllFit, HasEqualLengths, IsWithin, LookupsFit};
 ghost use Rattle.lookup_model.specs.Sent.{branches_at, values};
@@ -19,7 +17,7 @@ use crate::fractions::{is_satisfied, with_branch};
 use crate::trace_row::TraceRow;
 use air::{SymbolicExpression, Traces};
 use field::{Domain, ExtensionDomain, ExtensionField, Field, Over, PrimeCharacteristicRing};
-use lookup::{Challenges, Lookup, LookupTerminal};
+use lookup::{Lookup, LookupTerminal};
 use lookup_evaluation::Quotient;
 use lookup_model::BatchInstance;
 use matrix::RowMajorMatrix;
@@ -27,21 +25,21 @@ use matrix::RowMajorMatrix;
 /// Up to which of the rows from `first` up to `end` every constraint of an AIR with lookups is zero: the
 /// first row on which one is not, or `end`.
 ///
-/// The expressions are walked on each row, and the prefixes are read where they stand: no list is made.
+/// The expressions are walked on each row: no list is made.
 pub(crate) fn few_hold_until<F: Field, EF: ExtensionField<F>>(
     instance: &BatchInstance<'_, F>,
-    challenges: &Challenges<EF>,
+    challenges: &[EF],
     aux: &RowMajorMatrix<EF>,
     terminal: LookupTerminal<EF>,
     first: usize,
     end: usize,
 ) -> usize
-    requires fit { IsFitting (instance_of instance.now) }
-    requires ids { HasPrefixes challenges.now instance.now }
+    requires columns { HasColumns (instance_of instance.now) challenges.now }
     requires shape { HasShapeAt (instance_of instance.now) (aux.now, Some terminal) }
     requires range { (first ≤ end) × (end ≤ height_of (instance_of instance.now).traces) }
-    ensures { RowsHoldUntil ⟦<EF as Over<F>>⟧.fields (table_of challenges.now)
-        (instance_of instance.now) (aux.now, Some terminal) first end result }
+    ensures { let i = instance_of instance.now in
+        ColumnsHoldUntil ⟦<EF as Over<F>>⟧.fields i.traces i.lookups challenges.now
+        (aux.now, Some terminal) first end result }
 {
     let (lookups, num_rows) = (instance.lookups, instance.main.height());
     let traces = Traces {
@@ -55,7 +53,7 @@ pub(crate) fn few_hold_until<F: Field, EF: ExtensionField<F>>(
         }
         let trace_row = TraceRow::new(&traces, num_rows, row);
         let cells = aux.row_slice(row);
-        if !fractions_hold(&trace_row, cells, lookups, challenges, instance.ids) {
+        if !fractions_hold(&trace_row, cells, lookups, challenges) {
             return row;
         }
     }
@@ -63,31 +61,23 @@ pub(crate) fn few_hold_until<F: Field, EF: ExtensionField<F>>(
 }
 
 /// Whether the constraints of the lookups' fractions are zero on a row. `cells` are those of the
-/// auxiliary trace on it, and `ids` the ids of the lookups.
+/// auxiliary trace on it.
 fn fractions_hold<F: Field, EF: ExtensionField<F>>(
     row: &TraceRow<'_, F>,
     cells: &[EF],
     lookups: &[Lookup<F>],
-    challenges: &Challenges<EF>,
-    ids: &[usize],
+    challenges: &[EF],
 ) -> bool
     requires fit { LookupsFit (trace_layout row.now) lookups.now }
     requires cells { length lookups.now < length cells.now }
-    requires ids { length ids.now ≡ length lookups.now }
-    requires prefixes { All (λ id. id < length (boxed_slice_items challenges.now.bus_prefix)) ids.now }
+    requires challenges { 2 * length lookups.now ≤ length challenges.now }
     ensures { IsTrue result ↔ AllByRecursion (FractionHoldsAt ⟦<EF as Over<F>>⟧.fields
-        (window_over (trace_window row.now) cells.now
-        (column_challenges (table_of challenges.now) ids.now))) lookups.now }
+        (window_over (trace_window row.now) cells.now challenges.now)) lookups.now }
 {
     for lookup in lookups {
-        let prefix = challenges.bus_prefix[ids[lookup.column]];
-        if !fraction_holds_on(
-            row,
-            lookup,
-            prefix,
-            challenges.beta,
-            cells[lookup.column + 1],
-        ) {
+        let at = lookup.column;
+        let (alpha, beta) = (challenges[2 * at], challenges[2 * at + 1]);
+        if !fraction_holds_on(row, lookup, alpha, beta, cells[at + 1]) {
             return false;
         }
     }

@@ -110,7 +110,9 @@ pub fn packing_keeps_batch<F: Field, EF: ExtensionField<F>>()
 
 /// How checks of ranges of rows join, wherever they are made: where every constraint is zero on a range, the
 /// answer for the next one is that for both, and the first failing row of a range is that of a longer one
-/// that begins with it. A result of the right shape whose constraints are zero on all rows is satisfied.
+/// that begins with it. The rows of a range on which every constraint is zero add up, if there are any. A result
+/// of the right shape whose constraints are zero on all rows is satisfied and, if there is a row where there are
+/// lookups, its terminal is the sum of its fractions.
 pub fn checks_join<F: Field, EF: ExtensionField<F>>()
     ensures { (table : ChallengeTable EF) (instance : Instance F) (result : AirResult EF)
         → ChecksJoin ⟦<EF as Over<F>>⟧.fields table instance result }

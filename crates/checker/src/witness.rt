@@ -4,13 +4,12 @@ ghost use Rattle.std.specs.List.{zip};
 ghost use Rattle.lookup_model.specs.Challenges.{table_of};
 ghost use Rattle.checker.specs.Answers.{AreReady, ChecksWitness, PassesOnlyPlain, RefusesUnaccepted};
 ghost use Rattle.lookup_model.specs.Batches.Instances.{HasPrefixes, IsFitting, instance_of, instances_of};
-ghost use Rattle.lookup_model.specs.Batches.Refusals.{HasShapeAt};
 ghost use Rattle.air.specs.Traces.{height_of};
 ghost use Rattle.checker.specs.Ranges.{ChecksResult, ChecksShape};
-ghost use Rattle.checker.specs.internal.Checks.{ChecksRows};
 ghost use Rattle.lookup_generation.specs.Ranges.{AreEnds};
 
-use crate::rows::rows_hold_until;
+use crate::columns::check_in_columns;
+use crate::rows::columns_hold_until;
 use field::{ExtensionField, Field, Over};
 use lookup::{Challenges, LogUpGadget, LookupError, LookupProtocol, LookupTerminal};
 use lookup_model::BatchInstance;
@@ -83,8 +82,8 @@ pub fn check_result<F: Field, EF: ExtensionField<F>>(
     ensures { ChecksResult ⟦<EF as Over<F>>⟧.fields (table_of challenges.now) air
         (instance_of instance.now) (aux.now, terminal.now) result }
 {
-    check_shape(air, instance, aux, terminal)?;
-    check_rows(alloc, air, instance, challenges, aux, terminal)
+    let columns = challenges.for_columns(alloc, instance.ids)?;
+    check_in_columns(alloc, air, instance, &columns, aux, terminal)
 }
 
 /// Whether the result of an AIR, number `air` of its batch, has a terminal and an auxiliary trace of the
@@ -123,36 +122,13 @@ pub fn check_shape<F, EF>(
     Ok(())
 }
 
-/// Whether every constraint of one AIR is zero on each row.
-fn check_rows<F: Field, EF: ExtensionField<F>>(
-    alloc: Global,
-    air: usize,
-    instance: &BatchInstance<'_, F>,
-    challenges: &Challenges<EF>,
-    aux: &RowMajorMatrix<EF>,
-    terminal: &Option<LookupTerminal<EF>>,
-) -> Result<(), LookupError>
-    requires fit { IsFitting (instance_of instance.now) }
-    requires ids { HasPrefixes challenges.now instance.now }
-    requires shape { HasShapeAt (instance_of instance.now) (aux.now, terminal.now) }
-    ensures { ChecksRows ⟦<EF as Over<F>>⟧.fields (table_of challenges.now) air
-        (instance_of instance.now) (aux.now, terminal.now) result }
-{
-    let height = instance.main.height();
-    let row = rows_hold_until(alloc, instance, challenges, aux, terminal, 0, height)?;
-    if row < height {
-        return Err(LookupError::ConstraintFailed { air, row });
-    }
-    Ok(())
-}
-
 /// Whether the result of one AIR, number `air` of its batch, satisfies its constraints, where its rows are
 /// checked in ranges: the first range ends at the first of `ends`, and each further one follows on the one
 /// before.
 ///
 /// `ends` do not decrease, and the last of them is the height. Whatever they are, the answer is that of
 /// [`check_witness`] for this AIR. The shape is checked once, by [`check_shape`], and each range by
-/// [`rows_hold_until`](crate::rows_hold_until), as others may do elsewhere: that this is enough is the
+/// [`columns_hold_until`], as others may do elsewhere: that this is enough is the
 /// contract of [`checks_join`](crate::checks_join). Also fails when out of memory.
 pub fn check_in_ranges<F: Field, EF: ExtensionField<F>>(
     alloc: Global,
@@ -170,9 +146,10 @@ pub fn check_in_ranges<F: Field, EF: ExtensionField<F>>(
         (instance_of instance.now) (aux.now, terminal.now) result }
 {
     check_shape(air, instance, aux, terminal)?;
+    let columns = challenges.for_columns(alloc, instance.ids)?;
     let mut first = 0;
     for end in ends {
-        let row = rows_hold_until(alloc, instance, challenges, aux, terminal, first, *end)?;
+        let row = columns_hold_until(alloc, instance, &columns, aux, terminal, first, *end)?;
         if row < *end {
             return Err(LookupError::ConstraintFailed { air, row });
         }

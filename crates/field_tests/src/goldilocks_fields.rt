@@ -18,6 +18,7 @@ fn whole_numbers_are_reduced(rt: HostRuntime) {
     ] {
         let x = Goldilocks::new(n);
         holds_at(&rt, "number", at, x.as_canonical_u64() == number);
+        holds_at(&rt, "from_u64", at, Goldilocks::from_u64(n) == x);
         holds_at(&rt, "text", at, has_text(rt.alloc(), x, text));
     }
 }

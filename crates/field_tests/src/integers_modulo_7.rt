@@ -69,6 +69,8 @@ fn whole_numbers_are_reduced(rt: HostRuntime) {
     is(&rt, "8", F7::new(8), F7::ONE);
     is(&rt, "2^32 - 1", F7::new(4_294_967_295), F7::new(3));
     is(&rt, "30", F7::from_u32(30), F7::new(2));
+    // 2^64 - 1 = 7 * 2635249153387078802 + 1
+    is(&rt, "2^64 - 1", F7::from_u64(u64::MAX), F7::ONE);
     is(&rt, "-1", F7::from_i32(-1), F7::new(6));
     is(&rt, "-2^31", F7::from_i32(-2_147_483_648), F7::new(5));
     is(&rt, "9", F7::from_i32(9), F7::new(2));

@@ -12,6 +12,8 @@ mod batch_inverse;
 #[cfg(test)]
 mod cases;
 #[cfg(test)]
+mod debug;
+#[cfg(test)]
 mod division;
 #[cfg(test)]
 mod goldilocks_fields;

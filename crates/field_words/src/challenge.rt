@@ -54,7 +54,12 @@ impl<const P: u32, K: QuarticParameters<P>> Challenge<MontyField31<P, K>> for Mo
             return None;
         }
         let [c0, c1, c2, c3] = numbers;
-        Some(MontyQuartic::new([times_one(c0), times_one(c1), times_one(c2), times_one(c3)]))
+        Some(MontyQuartic::new([
+            MontyField31::from_u64(c0),
+            MontyField31::from_u64(c1),
+            MontyField31::from_u64(c2),
+            MontyField31::from_u64(c3),
+        ]))
     }
 }
 
@@ -68,7 +73,7 @@ impl Challenge<Goldilocks> for Goldilocks2 {
             return None;
         }
         let [c0, c1] = numbers;
-        Some(Goldilocks2::new([times_one(c0), times_one(c1)]))
+        Some(Goldilocks2::new([Goldilocks::from_u64(c0), Goldilocks::from_u64(c1)]))
     }
 }
 
@@ -101,20 +106,7 @@ fn element<F: PrimeCharacteristicRing>(word: &[u8]) -> Option<F>
     ensures { result ≡ option_map (of_nat F.ring)
         (number_of (number_bound F.CHARACTERISTIC) word.now) }
 {
-    number(word, F::CHARACTERISTIC).map(|value| times_one(value))
-}
-
-/// `n` times one.
-pub fn times_one<F: PrimeCharacteristicRing>(n: u64) -> F
-    ensures { result ≡ of_nat F.ring n }
-{
-    let low = F::from_u32((n % 4_294_967_296) as u32);
-    if n < 4_294_967_296 {
-        return low;
-    }
-    let high = F::from_u32((n / 4_294_967_296) as u32);
-    let half = F::from_u32(65_536);
-    high * (half * half) + low
+    number(word, F::CHARACTERISTIC).map(|value| F::from_u64(value))
 }
 
 /// The value of one or more decimal digits, if it is below `bound` and fits 64 bits. Leading zeros

@@ -2,7 +2,6 @@
 ghost use Rattle.std.specs.Prelude.{◌≡◌, IfOk, map};
 ghost use Rattle.field.specs.Ring.{of_nat};
 
-use crate::challenge::times_one;
 use field::PrimeCharacteristicRing;
 use std::alloc::{AllocError, Global};
 
@@ -15,7 +14,7 @@ pub fn elements_of<F: PrimeCharacteristicRing>(
 {
     let mut elements = Vec::with_capacity(alloc, numbers.len())?;
     for number in numbers {
-        elements.push(times_one(*number))?;
+        elements.push(F::from_u64(*number))?;
     }
     Ok(elements)
 }

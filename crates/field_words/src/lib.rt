@@ -4,5 +4,5 @@
 mod challenge;
 mod elements;
 
-pub use challenge::{Challenge, Written, number, times_one};
+pub use challenge::{Challenge, Written, number};
 pub use elements::elements_of;

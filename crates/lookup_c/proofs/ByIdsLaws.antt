@@ -1,11 +1,11 @@
 -- Generation over elements, as generation under the ids of a plan over tables of numbers.
-use Rattle.std.proofs.Common.{◌<◌, ◌≡◌, ◌∙◌, ℕ, List, MatchResult, Result, ap, inr, subst}
+use Rattle.std.proofs.Common.{◌<◌, ◌≡◌, ℕ, List, MatchResult, Result, inr, subst}
 use Rattle.std.proofs.lemmas.Result.{MatchResult-weaker}
 use Rattle.air.specs.Traces.{AirTraces}
 use Rattle.field.specs.Extension.{Extension}
 use Rattle.field.specs.Quartic.{Quartic}
 use Rattle.field.specs.Residue.{Residue}
-use Rattle.lookup_model.specs.Challenges.{ChallengeTable, column_challenges}
+use Rattle.lookup_model.specs.Challenges.{column_challenges}
 use Rattle.lookup_model.specs.declared.types.Lookup.{Lookup}
 use Rattle.lookup_tables.specs.declared.tables.Tables.{Tables}
 use Rattle.lookup_tables.specs.declared.traces.Traces.{Traces}
@@ -18,7 +18,7 @@ use Rattle.lookup_c.specs.declared.generate.Generated.{Generated}
 use Rattle.lookup_c.specs.declared.plan.PlanSizes.{PlanSizes}
 
 module _ {p : ℕ} (positive : 0 < p) (E : Extension (Residue p) (Quartic (Residue p))) (tables : Tables) (traces : Traces) (ids : List ℕ) (sizes : PlanSizes) (alpha beta : List ℕ) (answer : Result (Generated (Quartic (Residue p))) Fault) (lookups items : List (Lookup (Residue p))) (a b : Quartic (Residue p)) (seen : AirTraces (Residue p)) (given : List (Quartic (Residue p)))
-    (table : ChallengeTable (Quartic (Residue p))) (air : IsPlannedAir positive tables traces ids sizes alpha beta lookups a b) (seen_is : seen ≡ decoded_traces positive traces) (items_are : items ≡ lookups) (given_are : given ≡ column_challenges table ids) (table_is : table ≡ planned_table E.ring sizes a b) where
+    (air : IsPlannedAir positive tables traces ids sizes alpha beta lookups a b) (seen_is : seen ≡ decoded_traces positive traces) (items_are : items ≡ lookups) (given_are : given ≡ column_challenges (planned_table E.ring sizes a b) ids) where
   -- what generation over elements answers
   abbrev AnswersFitting : AirTraces (Residue p) → List (Lookup (Residue p)) → List (Quartic (Residue p)) → Type 0
   AnswersFitting t ls cs = MatchResult answer (CallGeneratesLookups E t cs ls) (IsFirstGenerateFault E t cs ls)
@@ -29,7 +29,7 @@ module _ {p : ℕ} (positive : 0 < p) (E : Extension (Residue p) (Quartic (Resid
   generated_by_ids over =
       let here = decoded_traces positive traces in
       MatchResult-weaker answer
-      (subst (λ cs. AnswersFitting here lookups cs) (given_are ∙ ap (λ t. column_challenges t ids) table_is)
+      (subst (λ cs. AnswersFitting here lookups cs) given_are
       (subst (λ ls. AnswersFitting here ls given) items_are
       (subst (λ t. AnswersFitting t items given) seen_is over)))
       (λ g generates. record { lookups = lookups; a = a; b = b; air = air; generates = generates })

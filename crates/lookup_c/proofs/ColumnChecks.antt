@@ -7,7 +7,7 @@ use Rattle.field.specs.Quartic.{Quartic}
 use Rattle.air.specs.Traces.{AirTraces}
 use Rattle.checker.specs.Columns.{IsColumnsRefusal}
 use Rattle.lookup_model.specs.Batches.Witnesses.{AirResult}
-use Rattle.lookup_model.specs.Witness.{IsSatisfied}
+use Rattle.lookup_model.specs.Witness.{IsSatisfied, TerminalIsSum}
 use Rattle.lookup_model.specs.declared.error.LookupError.{LookupError}
 use Rattle.lookup_model.specs.declared.error.LookupError.TheVariants as lookup_error
 use Rattle.lookup_model.specs.declared.types.Lookup.{Lookup}
@@ -26,18 +26,19 @@ use Rattle.lookup_c.specs.internal.Faults.{IsCheckFault}
 use Rattle.lookup_c.proofs.BatchLaws.{decoded}
 
 -- what is satisfied over the traces by another name
-pub satisfied_over : {F K : Type 0} (E : Extension F K) (seen traces : AirTraces F) (lookups : List (Lookup F)) (challenges : List K) (result : AirResult K) → seen ≡ traces → IsSatisfied E seen lookups challenges result.0 result.1 → IsSatisfied E traces lookups challenges result.0 result.1
-satisfied_over E seen traces lookups challenges result is satisfied = subst (λ t. IsSatisfied E t lookups challenges result.0 result.1) is satisfied
+pub satisfied_over : {F K : Type 0} (E : Extension F K) (seen traces : AirTraces F) (lookups : List (Lookup F)) (challenges : List K) (result : AirResult K) → seen ≡ traces
+    → IsSatisfied E seen lookups challenges result.0 result.1 × TerminalIsSum E seen lookups result.0 result.1 → IsSatisfied E traces lookups challenges result.0 result.1 × TerminalIsSum E traces lookups result.0 result.1
+satisfied_over E seen traces lookups challenges result is satisfied = subst (λ t. IsSatisfied E t lookups challenges result.0 result.1 × TerminalIsSum E t lookups result.0 result.1) is satisfied
 
 -- and what the check refuses
-pub unsatisfied_over : {F K : Type 0} (E : Extension F K) (seen traces : AirTraces F) (lookups : List (Lookup F)) (challenges : List K) (result : AirResult K) → seen ≡ traces → (error : LookupError) (fault : Fault) → IsCheckFault error fault → (error ≡ lookup_error.Memory) ⊎ IsColumnsRefusal E seen lookups challenges result error
+pub unsatisfied_over : {F K : Type 0} (E : Extension F K) (seen traces : AirTraces F) (lookups : List (Lookup F)) (challenges : List K) (result : AirResult K) → seen ≡ traces → (error : LookupError) (fault : Fault) → IsCheckFault error fault → (error ≡ lookup_error.Memory) ⊎ IsColumnsRefusal E seen lookups challenges result 0 error
     → IsFirstUnsatisfied E traces lookups challenges result fault
 unsatisfied_over E seen traces lookups challenges result is error fault (inl memory) _ = inl memory.1
 unsatisfied_over E seen traces lookups challenges result is error fault (inr other) (inl memory) = absurd (other.0 memory)
 unsatisfied_over E seen traces lookups challenges result is error fault (inr other) (inr refusal) = inr (
   error,
   other.1,
-  record { refusal = subst (λ t. IsColumnsRefusal E t lookups challenges result error) is refusal },
+  record { refusal = subst (λ t. IsColumnsRefusal E t lookups challenges result 0 error) is refusal },
 )
 
 module _ {p : ℕ} (positive : 0 < p) (E : Extension (Residue p) (Quartic (Residue p))) (tables : Tables) (traces : Traces) (answer : Result (Unit {0}) Fault) (lookups : List (Lookup (Residue p))) (read : ReadTraces (Residue p)) (elements : List (Quartic (Residue p))) (result : AirResult (Quartic (Residue p))) (say : TablesEncode tables lookups)

@@ -1,14 +1,15 @@
 -- Checks of ranges of rows over elements, as checks over tables of numbers.
-use Rattle.std.proofs.Common.{◌<◌, ◌≡◌, ◌≤◌, ℕ, List, Option, arith, subst, sym}
+use Rattle.std.proofs.Common.{◌<◌, ◌≡◌, ◌≤◌, ◌*◌, ℕ, List, Option, length, arith, subst, sym}
 use Rattle.field.specs.Residue.{Residue}
 use Rattle.air.specs.Traces.{AirTraces}
-use Rattle.checker.specs.Ranges.{RowsHoldUntil}
+use Rattle.checker.specs.Columns.{ColumnsHoldUntil, HasColumns}
+use Rattle.checker.specs.Ranges.{RangeAddsUp, RowsHoldUntil}
 use Rattle.field.specs.Extension.{Extension}
 use Rattle.field.specs.Quartic.{Quartic}
 use Rattle.matrix.specs.Matrix.{Matrix}
-use Rattle.lookup_model.specs.Batches.Instances.{Instance, IsFitting}
+use Rattle.lookup_model.specs.Batches.Instances.{Instance}
 use Rattle.lookup_model.specs.Batches.Refusals.{HasShapeAt, IsShapeRefusal}
-use Rattle.lookup_model.specs.Challenges.{ChallengeTable}
+use Rattle.lookup_model.specs.Challenges.{column_challenges}
 use Rattle.lookup_model.specs.declared.error.LookupError.{LookupError}
 use Rattle.lookup_model.specs.declared.types.Lookup.{Lookup}
 use Rattle.lookup_model.specs.declared.types.LookupTerminal.{LookupTerminal}
@@ -27,19 +28,24 @@ use Rattle.lookup_c.specs.declared.witness.AirWitness.{AirWitness}
 
 module _ {F K : Type 0} (E : Extension F K) where
   -- up to which row of a range the constraints are zero, of every whole trace
-  abbrev pub HoldsAround : Instance F → Matrix K → Option (LookupTerminal K) → ChallengeTable K → RowRange → ℕ → Type 0
-  HoldsAround around aux terminal table range row =
+  abbrev pub HoldsAround : Instance F → Matrix K → Option (LookupTerminal K) → List K → RowRange → ℕ → Type 0
+  HoldsAround around aux terminal challenges range row =
       (whole : AirTraces F) (auxiliary : Matrix K) → AreAround range whole around.traces → IsMatrixAround range auxiliary aux
-      → RowsHoldUntil E table (over_traces whole around) (auxiliary, terminal) range.first range.end row
+      → ColumnsHoldUntil E whole around.lookups challenges (auxiliary, terminal) range.first range.end row
 
--- an AIR that is read is fitting
-pub read_fits : {p : ℕ} (positive : 0 < p) (tables : Tables) (around : Traces) (rows : Rows) (ids : List ℕ) (sizes : PlanSizes) (alpha beta : List ℕ) (lookups : List (Lookup (Residue p))) (a b : Quartic (Residue p)) (instance : Instance (Residue p))
-    → IsPlannedAir positive tables around ids sizes alpha beta lookups a b → HasCallRowsAround rows (decoded_traces positive around) → instance ≡ instance_with_ids lookups ids (decoded_traces positive around) → IsFitting instance
-read_fits positive tables around rows ids sizes alpha beta lookups a b instance air has_rows is = subst IsFitting (sym is) (record {
+  -- where they are on all rows of the range, these rows of every whole trace add up
+  abbrev pub AddsAround : Instance F → Matrix K → Option (LookupTerminal K) → RowRange → ℕ → Type 0
+  AddsAround around aux terminal range row =
+      (whole : AirTraces F) (auxiliary : Matrix K) → AreAround range whole around.traces → IsMatrixAround range auxiliary aux
+      → RangeAddsUp E (over_traces whole around) (auxiliary, terminal) range.first range.end row
+
+-- an AIR that is read has columns
+pub read_has_columns : {p : ℕ} {K : Type 0} (positive : 0 < p) (tables : Tables) (around : Traces) (ids : List ℕ) (sizes : PlanSizes) (alpha beta : List ℕ) (lookups : List (Lookup (Residue p))) (a b : Quartic (Residue p)) (instance : Instance (Residue p)) (challenges : List K)
+    → IsPlannedAir positive tables around ids sizes alpha beta lookups a b → instance ≡ instance_with_ids lookups ids (decoded_traces positive around) → length challenges ≡ 2 * length ids → HasColumns instance challenges
+read_has_columns positive tables around ids sizes alpha beta lookups a b instance challenges air is many = subst (λ (i : Instance _). HasColumns i challenges) (sym is) (record {
   fit = air.fitting.fit;
   heights = air.fitting.heights;
-  nonempty = λ _. omega (arith, has_rows.many, has_rows.range.some);
-  ids = air.read.as_many;
+  enough = omega (arith, many, air.read.as_many);
 })
 
 module _ {p : ℕ} (positive : 0 < p) (E : Extension (Residue p) (Quartic (Residue p))) (tables : Tables) (around : Traces) (rows : Rows) (ids : List ℕ) (sizes : PlanSizes) (alpha beta : List ℕ) (numbers : AirWitness) (lookups : List (Lookup (Residue p))) (a b : Quartic (Residue p)) (instance : Instance (Residue p))
@@ -60,15 +66,24 @@ module _ {p : ℕ} (positive : 0 < p) (E : Extension (Residue p) (Quartic (Resid
       holds = subst (λ i. IsShapeRefusal 0 i (witness_result positive numbers) error) is (subst (λ r. IsShapeRefusal 0 instance r error) result_is refusal);
     }
 
-    module _ (table : ChallengeTable (Quartic (Residue p))) (range : RowRange) (table_is : table ≡ planned_table E.ring sizes a b) (range_is : range ≡ range_of rows) (shape : HasShapeAt instance (aux, terminal)) (row : ℕ) (over : HoldsAround E instance aux terminal table range row) where
+    module _ (challenges : List (Quartic (Residue p))) (range : RowRange) (challenges_are : challenges ≡ column_challenges (planned_table E.ring sizes a b) ids) (range_is : range ≡ range_of rows) (shape : HasShapeAt instance (aux, terminal)) (row : ℕ) (over : HoldsAround E instance aux terminal challenges range row) where
       -- what is found of the whole traces
       found : VerifiedRowsHoldUntil positive E around rows ids numbers lookups (planned_table E.ring sizes a b) row
       found =
-          subst (λ i. HoldsAround E i (witness_auxiliary positive numbers) (witness_terminal positive numbers.terminal) (planned_table E.ring sizes a b) (range_of rows) row) is
-          (subst (λ m. HoldsAround E instance m (witness_terminal positive numbers.terminal) (planned_table E.ring sizes a b) (range_of rows) row) aux_is
-          (subst (λ t. HoldsAround E instance aux t (planned_table E.ring sizes a b) (range_of rows) row) terminal_is
-          (subst (λ t. HoldsAround E instance aux terminal t (range_of rows) row) table_is
-          (subst (λ r. HoldsAround E instance aux terminal table r row) range_is over))))
+          let given = column_challenges (planned_table E.ring sizes a b) ids in
+          subst (λ i. HoldsAround E i (witness_auxiliary positive numbers) (witness_terminal positive numbers.terminal) given (range_of rows) row) is
+          (subst (λ m. HoldsAround E instance m (witness_terminal positive numbers.terminal) given (range_of rows) row) aux_is
+          (subst (λ t. HoldsAround E instance aux t given (range_of rows) row) terminal_is
+          (subst (λ cs. HoldsAround E instance aux terminal cs (range_of rows) row) challenges_are
+          (subst (λ r. HoldsAround E instance aux terminal challenges r row) range_is over))))
+
+      -- and of their sums
+      found_sums : AddsAround E instance aux terminal range row → AddsAround E (instance_with_ids lookups ids (decoded_traces positive around)) (witness_auxiliary positive numbers) (witness_terminal positive numbers.terminal) (range_of rows) row
+      found_sums sums =
+          subst (λ i. AddsAround E i (witness_auxiliary positive numbers) (witness_terminal positive numbers.terminal) (range_of rows) row) is
+          (subst (λ m. AddsAround E instance m (witness_terminal positive numbers.terminal) (range_of rows) row) aux_is
+          (subst (λ t. AddsAround E instance aux t (range_of rows) row) terminal_is
+          (subst (λ r. AddsAround E instance aux terminal r row) range_is sums)))
 
       right_shape : HasVerifyRowsShape positive E tables around rows ids sizes alpha beta numbers lookups
       right_shape = subst (λ i. HasShapeAt i (witness_result positive numbers)) is (subst (λ r. HasShapeAt instance r) result_is shape)
@@ -86,8 +101,8 @@ module _ {p : ℕ} (positive : 0 < p) (E : Extension (Residue p) (Quartic (Resid
       }
 
       -- all are zero
-      pub rows_hold : rows.end ≤ row → CallVerifiesRows positive E tables around rows ids sizes alpha beta numbers
-      rows_hold past = record {
+      pub rows_hold : AddsAround E instance aux terminal range row → rows.end ≤ row → CallVerifiesRows positive E tables around rows ids sizes alpha beta numbers
+      rows_hold sums past = record {
         lookups = lookups;
         a = a;
         b = b;
@@ -99,5 +114,8 @@ module _ {p : ℕ} (positive : 0 < p) (E : Extension (Residue p) (Quartic (Resid
           λ whole auxiliary are is_auxiliary.
               let until = found whole auxiliary are is_auxiliary in
               subst (RowsHoldUntil E (planned_table E.ring sizes a b) (instance_with_ids lookups ids whole) (auxiliary, witness_terminal positive numbers.terminal) rows.first rows.end) (omega (arith, until.up_to, past)) until,
+          λ whole auxiliary are is_auxiliary some.
+              let until = found whole auxiliary are is_auxiliary in
+              found_sums sums whole auxiliary are is_auxiliary some has_rows.range.some (omega (arith, until.up_to, past)),
         );
       }

@@ -6,7 +6,7 @@ use Rattle.field.specs.Extension.{Extension}
 use Rattle.field.specs.Quartic.{Quartic}
 use Rattle.matrix.specs.Matrix.{Matrix}
 use Rattle.lookup_generation.specs.Ranges.{AnswersRows}
-use Rattle.lookup_model.specs.Challenges.{ChallengeTable, column_challenges}
+use Rattle.lookup_model.specs.Challenges.{column_challenges}
 use Rattle.lookup_model.specs.declared.error.LookupError.{LookupError}
 use Rattle.lookup_model.specs.declared.error.LookupError.TheVariants as error
 use Rattle.lookup_model.specs.declared.types.Lookup.{Lookup}
@@ -46,11 +46,11 @@ module _ {p : ℕ} (positive : 0 < p) (E : Extension (Residue p) (Quartic (Resid
       by_case (inl is) = absurd (other is)
       by_case (inr first) = first
 
-module _ {p : ℕ} (positive : 0 < p) (E : Extension (Residue p) (Quartic (Residue p))) (tables : Tables) (around : Traces) (rows : Rows) (ids : List ℕ) (sizes : PlanSizes) (alpha beta : List ℕ) (lookups items : List (Lookup (Residue p))) (a b : Quartic (Residue p)) (read seen : AirTraces (Residue p)) (given : List (Quartic (Residue p))) (table : ChallengeTable (Quartic (Residue p))) (range : RowRange)
-    (air : IsPlannedAir positive tables around ids sizes alpha beta lookups a b) (read_is : read ≡ decoded_traces positive around) (has_rows : HasCallRowsAround rows read) (seen_is : seen ≡ read) (items_are : items ≡ lookups) (given_are : given ≡ column_challenges table ids) (table_is : table ≡ planned_table E.ring sizes a b) (range_is : range ≡ range_of rows) where
+module _ {p : ℕ} (positive : 0 < p) (E : Extension (Residue p) (Quartic (Residue p))) (tables : Tables) (around : Traces) (rows : Rows) (ids : List ℕ) (sizes : PlanSizes) (alpha beta : List ℕ) (lookups items : List (Lookup (Residue p))) (a b : Quartic (Residue p)) (read seen : AirTraces (Residue p)) (given : List (Quartic (Residue p))) (range : RowRange)
+    (air : IsPlannedAir positive tables around ids sizes alpha beta lookups a b) (read_is : read ≡ decoded_traces positive around) (has_rows : HasCallRowsAround rows read) (seen_is : seen ≡ read) (items_are : items ≡ lookups) (given_are : given ≡ column_challenges (planned_table E.ring sizes a b) ids) (range_is : range ≡ range_of rows) where
   -- what is answered over what is read
   same : (answer : Result (Matrix (Quartic (Residue p)) × Quartic (Residue p)) LookupError) → AnswersAround E seen items given range answer → AnswersAround E (decoded_traces positive around) lookups (column_challenges (planned_table E.ring sizes a b) ids) (range_of rows) answer
-  same answer = answers_same E seen (decoded_traces positive around) items lookups given (column_challenges (planned_table E.ring sizes a b) ids) range (range_of rows) answer (seen_is ∙ read_is) items_are (given_are ∙ ap (λ t. column_challenges t ids) table_is) range_is
+  same answer = answers_same E seen (decoded_traces positive around) items lookups given (column_challenges (planned_table E.ring sizes a b) ids) range (range_of rows) answer (seen_is ∙ read_is) items_are given_are range_is
 
   -- the rows that are generated
   pub rows_generated : (made : Matrix (Quartic (Residue p)) × Quartic (Residue p)) → AnswersAround E seen items given range (Ok made) → CallGeneratesRows positive E tables around rows ids sizes alpha beta made.0 made.1

@@ -4,7 +4,7 @@ use Rattle.field.specs.Residue.{Residue}
 use Rattle.field.specs.Extension.{Extension}
 use Rattle.field.specs.Quartic.{Quartic}
 use Rattle.matrix.specs.Matrix.{Matrix}
-use Rattle.air.specs.Traces.{AirTraces, HaveOneHeight, layout_of}
+use Rattle.air.specs.Traces.{AirTraces, HaveOneHeight, height_of, layout_of}
 use Rattle.lookup_model.specs.Denominators.{key_denominator}
 use Rattle.lookup_model.specs.Fault.{trace_faults}
 use Rattle.lookup_model.specs.Generated.{plain_matrix, plain_terminal_of}
@@ -29,14 +29,19 @@ use Rattle.lookup_c.specs.declared.outputs.Terminal.{Terminal}
 use Rattle.lookup_c.specs.declared.refusal.Refusal.{Refusal}
 
 module _ {F : Type 0} (traces : AirTraces F) (lookups : List (Lookup F)) where
-  -- the lookups fit the traces, which have one height
+  -- where there are lookups, there is a row
+  abbrev pub HaveRows : Type 0
+  HaveRows = 0 < length lookups → 0 < height_of traces
+
+  -- the lookups fit the traces and have a row to read, and the traces have one height
   pub record GenerateFits : Type 0 where
     pub fit : LookupsFit (layout_of traces) lookups
+    pub nonempty : HaveRows
     pub heights : HaveOneHeight traces
 
-  -- the lookups do not fit the traces
+  -- the lookups do not fit the traces, or have no row to read
   abbrev pub IsGenerateMisfit : Fault → Type 0
-  IsGenerateMisfit fault = (fault ≡ Misfit 0) × (¬ LookupsFit (layout_of traces) lookups)
+  IsGenerateMisfit fault = (fault ≡ Misfit 0) × (¬ (LookupsFit (layout_of traces) lookups × HaveRows))
 
   -- the preprocessed trace has another height
   abbrev pub IsGenerateOtherHeight : Fault → Type 0

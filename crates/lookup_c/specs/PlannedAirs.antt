@@ -1,12 +1,10 @@
 -- One AIR of a planned batch, as calls read it.
-use Rattle.std.specs.Prelude.{◌≡◌, ◌≢◌, ◌⊎◌, ◌<◌, ◌≤◌, ℕ, All, List, length}
-use Rattle.std.specs.Box.{boxed_slice_items}
+use Rattle.std.specs.Prelude.{◌≡◌, ◌≢◌, ◌⊎◌, ◌<◌, ◌≤◌, ◌*◌, ℕ, All, List, length}
 use Rattle.field.specs.Residue.{Residue}
 use Rattle.field.specs.Quartic.{Quartic}
 use Rattle.field.specs.Ring.{Ring}
 use Rattle.expressions.specs.Faults.{HasFirstFault}
-use Rattle.lookup_model.specs.Challenges.{ChallengeTable, table_of}
-use Rattle.lookup_model.specs.declared.challenges.Challenges.{Challenges}
+use Rattle.lookup_model.specs.Challenges.{ChallengeTable, column_challenges}
 use Rattle.lookup_model.specs.declared.types.Lookup.{Lookup}
 use Rattle.batch.specs.Tables.{made_table}
 use Rattle.lookup_tables.specs.Tables.{TablesEncode}
@@ -29,11 +27,11 @@ pub record ArePlannedIds (ids : List ℕ) (sizes : PlanSizes) : Type 0 where
 abbrev pub planned_table : {K : Type 0} → Ring K → PlanSizes → K → K → ChallengeTable K
 planned_table R sizes alpha beta = made_table R alpha beta sizes.max_message_width sizes.num_ids
 
--- the challenges of a plan of these sizes, which has these ids
-pub record ArePlannedChallenges {K : Type 0} (R : Ring K) (ids : List ℕ) (sizes : PlanSizes) (alpha beta : K) (challenges : Challenges K) : Type 0 where
+-- the challenges of these ids under a plan of these sizes
+pub record ArePlannedChallenges {K : Type 0} (R : Ring K) (ids : List ℕ) (sizes : PlanSizes) (alpha beta : K) (challenges : List K) : Type 0 where
   pub ids_are : ArePlannedIds ids sizes
-  pub table_is : table_of challenges ≡ planned_table R sizes alpha beta
-  pub has_prefixes : All (λ id. id < length (boxed_slice_items challenges.bus_prefix)) ids
+  pub challenges_are : challenges ≡ column_challenges (planned_table R sizes alpha beta) ids
+  pub many : length challenges ≡ 2 * length ids
 
 -- the refusal of the first id that is not below the number of ids
 abbrev pub IsFirstLargePlannedId : List ℕ → ℕ → Fault → Type 0

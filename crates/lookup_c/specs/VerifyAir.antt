@@ -7,7 +7,7 @@ use Rattle.air.specs.Traces.{AirTraces}
 use Rattle.batch.specs.declared.error.BatchError.TheVariants.{Lookup as OfLookup}
 use Rattle.checker.specs.Columns.{IsColumnsRefusal}
 use Rattle.lookup_model.specs.Batches.Witnesses.{AirResult}
-use Rattle.lookup_model.specs.Witness.{IsSatisfied}
+use Rattle.lookup_model.specs.Witness.{IsSatisfied, TerminalIsSum}
 use Rattle.lookup_model.specs.declared.error.LookupError.{LookupError}
 use Rattle.lookup_model.specs.declared.types.Lookup.{Lookup}
 use Rattle.lookup_tables.specs.Tables.{TablesEncode}
@@ -26,15 +26,17 @@ use Rattle.lookup_c.specs.declared.refusal.Refusal.{Refusal}
 use Rattle.lookup_c.specs.declared.witness.AirWitness.{AirWitness}
 
 module _ {F K : Type 0} (E : Extension F K) (traces : AirTraces F) (lookups : List (Lookup F)) (challenges : List K) (result : AirResult K) where
-  -- the lookups fit the traces, there are two challenges for each of them, and the result is satisfied
+  -- the lookups fit the traces, there are two challenges for each of them, the result is satisfied, and its
+  -- terminal is the sum of its fractions
   pub record IsVerifiedOver : Type 0 where
     pub fitting : GenerateFits traces lookups
     pub enough : 2 * length lookups ≤ length challenges
     pub satisfied : IsSatisfied E traces lookups challenges result.0 result.1
+    pub summed : TerminalIsSum E traces lookups result.0 result.1
 
   -- the result is refused for its shape, or for the first row on which a constraint is not zero
   pub record IsUnsatisfied (error : LookupError) : Type 0 where
-    pub refusal : IsColumnsRefusal E traces lookups challenges result error
+    pub refusal : IsColumnsRefusal E traces lookups challenges result 0 error
 
   -- that refusal, as the fault of a call; or memory runs out
   abbrev pub IsFirstUnsatisfied : Fault → Type 0

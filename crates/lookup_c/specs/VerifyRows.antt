@@ -1,7 +1,7 @@
 -- What verifying a range of rows answers from tables of numbers.
-use Rattle.std.specs.Prelude.{◌≡◌, ◌⊎◌, ◌<◌, ℕ, List}
+use Rattle.std.specs.Prelude.{◌≡◌, ◌⊎◌, ◌<◌, ℕ, List, length}
 use Rattle.field.specs.Residue.{Residue}
-use Rattle.air.specs.Traces.{AirTraces}
+use Rattle.air.specs.Traces.{AirTraces, height_of}
 use Rattle.batch.specs.declared.error.BatchError.TheVariants.{Lookup as OfLookup}
 use Rattle.checker.specs.Ranges.{RowsHoldUntil}
 use Rattle.field.specs.Extension.{Extension}
@@ -10,6 +10,7 @@ use Rattle.matrix.specs.Matrix.{Matrix}
 use Rattle.lookup_model.specs.Batches.Instances.{Instance}
 use Rattle.lookup_model.specs.Batches.Refusals.{HasShapeAt, IsShapeRefusal}
 use Rattle.lookup_model.specs.Batches.Witnesses.{AirResult}
+use Rattle.lookup_model.specs.Witness.{AddUp}
 use Rattle.lookup_model.specs.Challenges.{ChallengeTable}
 use Rattle.lookup_model.specs.declared.error.LookupError.{LookupError}
 use Rattle.lookup_model.specs.declared.error.LookupError.TheVariants.{ConstraintFailed}
@@ -46,6 +47,14 @@ module _ {p : ℕ} (positive : 0 < p) (E : Extension (Residue p) (Quartic (Resid
       → AreAround (range_of rows) whole (decoded_traces positive around) → IsMatrixAround (range_of rows) auxiliary (witness_auxiliary positive numbers)
       → RowsHoldUntil E table (instance_with_ids lookups ids whole) (auxiliary, witness_terminal positive numbers.terminal) rows.first rows.end row
 
+  -- In every such whole trace the rows of the range add up: the fractions on them lead from the accumulator before
+  -- them to that after them, or to the terminal.
+  abbrev pub VerifiedRowsAddUp : List (Lookup (Residue p)) → Type 0
+  VerifiedRowsAddUp lookups =
+      (whole : AirTraces (Residue p)) (auxiliary : Matrix (Quartic (Residue p)))
+      → AreAround (range_of rows) whole (decoded_traces positive around) → IsMatrixAround (range_of rows) auxiliary (witness_auxiliary positive numbers)
+      → 0 < length lookups → AddUp E lookups (height_of whole) auxiliary (witness_terminal positive numbers.terminal) rows.first rows.end
+
 module _ {p : ℕ} (positive : 0 < p) (E : Extension (Residue p) (Quartic (Residue p))) (tables : Tables) (around : Traces) (rows : Rows) (ids : List ℕ) (sizes : PlanSizes) (alpha beta : List ℕ) (numbers : AirWitness) where
   -- something holds of the lookups and the table of challenges that the tables and numbers encode, where the
   -- traces have the rows around the range, and the witness is one
@@ -62,9 +71,10 @@ module _ {p : ℕ} (positive : 0 < p) (E : Extension (Residue p) (Quartic (Resid
   abbrev pub HasVerifyRowsShape : List (Lookup (Residue p)) → Type 0
   HasVerifyRowsShape lookups = HasShapeAt (instance_with_ids lookups ids (decoded_traces positive around)) (witness_result positive numbers)
 
-  -- the witness has the right shape, and all constraints are zero on the rows of the range
+  -- the witness has the right shape, all constraints are zero on the rows of the range, and these add up
   abbrev pub CallVerifiesRows : Type 0
-  CallVerifiesRows = OfVerifyRows (λ lookups table. HasVerifyRowsShape lookups × VerifiedRowsHoldUntil positive E around rows ids numbers lookups table rows.end)
+  CallVerifiesRows =
+      OfVerifyRows (λ lookups table. HasVerifyRowsShape lookups × VerifiedRowsHoldUntil positive E around rows ids numbers lookups table rows.end × VerifiedRowsAddUp positive E around rows ids numbers lookups)
 
   -- the first row of the range on which a constraint is not zero
   abbrev pub IsFailingVerifyRow : ℕ → Type 0

@@ -29,7 +29,7 @@ pub(crate) struct Generated<EF> {
     pub(crate) terminal: Option<LookupTerminal<EF>>,
 }
 
-/// Whether lookups fit the traces of their AIR, and these have one height.
+/// Whether lookups fit the traces of their AIR, have a row to read, and the traces have one height.
 pub(crate) fn check_fit<const P: u32, K: QuarticParameters<P>>(
     traces: &ReadTraces<MontyField31<P, K>>,
     lookups: &[Lookup<MontyField31<P, K>>],
@@ -41,6 +41,9 @@ pub(crate) fn check_fit<const P: u32, K: QuarticParameters<P>>(
     let preprocessed = traces.preprocessed.as_ref();
     let layout = AirLayout::of_traces(main, preprocessed, traces.public_values.as_slice());
     if !fits(lookups, &layout) {
+        return Err(Fault::Misfit { air: 0 });
+    }
+    if !lookups.is_empty() && main.height() == 0 {
         return Err(Fault::Misfit { air: 0 });
     }
     if let Some(trace) = preprocessed {

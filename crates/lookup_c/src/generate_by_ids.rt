@@ -31,8 +31,7 @@ fn generate_tables<const P: u32, K: QuarticParameters<P>>(
         (IsByIdsRefusal K.positive E tables.now traces.now plan.now) }
 {
     let air = read_air::<P, K>(alloc, tables, traces, plan)?;
-    let challenges = air.challenges.for_columns(alloc, plan.ids)?;
-    generate_fitting(alloc, &air.traces, &air.lookups, &challenges)
+    generate_fitting(alloc, &air.traces, &air.lookups, &air.challenges)
 }
 
 /// Does what `volgwain_generate_by_ids` does, over any prime field below 2^31.

@@ -37,9 +37,8 @@ fn generate_tables<const P: u32, K: QuarticParameters<P>>(
 {
     let air = read_air::<P, K>(alloc, tables, around, plan)?;
     let range = range_of(rows, &air.traces)?;
-    let challenges = air.challenges.for_columns(alloc, plan.ids)?;
     let traces = traces_as_one(&air.traces);
-    match generate_around(alloc, &traces, &air.lookups, &challenges, range) {
+    match generate_around(alloc, &traces, &air.lookups, &air.challenges, range) {
         Ok(made) => Ok(made),
         Err(error) => Err(lookup_fault(error)),
     }

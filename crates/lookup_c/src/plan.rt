@@ -1,10 +1,10 @@
 //! The call that gives the plan of a batch.
-ghost use Rattle.std.specs.Prelude.{◌≡◌, ◌≢◌, ◌+◌, ◌≤◌, ◌++◌, IfSome, MatchResult, length, take};
+ghost use Rattle.std.specs.Prelude.{◌≡◌, ◌≢◌, ◌+◌, ◌≤◌, ◌++◌, All, IfSome, MatchResult, length, take};
 ghost use Rattle.std.specs.List.{flat_map};
 ghost use Rattle.std.specs.Result.{OnErr};
 ghost use Rattle.batch.specs.Runs.{plan_of};
 ghost use Rattle.lookup_c.specs.BatchTables.{IsPlanOfTables};
-ghost use Rattle.lookup_c.specs.Plan.{IsPlanCallRefusal, PlansNumbers, id_items};
+ghost use Rattle.lookup_c.specs.Plan.{HasRows, IsFirstRowless, IsPlanCallRefusal, PlansNumbers, id_items};
 ghost use Rattle.lookup_c.specs.CallAnswers.{CallAnswers};
 
 use crate::batch_tables::{Air, plan_of};
@@ -58,6 +58,20 @@ fn write_ids(numbers: &mut [usize], ids: &[Vec<usize>])
     }
 }
 
+/// Whether each AIR with lookups has a row.
+///
+/// Refuses the first that has none: over no rows no constraint binds its terminal.
+fn check_rows(airs: &[Air<'_>]) -> Result<(), Fault>
+    ensures { MatchResult result (λ _. All HasRows airs.now) (IsFirstRowless airs.now) }
+{
+    for (index, air) in airs.iter().enumerate() {
+        if air.height == 0 && !air.tables.records.is_empty() {
+            return Err(Fault::Misfit { air: index });
+        }
+    }
+    Ok(())
+}
+
 /// The plan of the AIRs, for room for so many ids.
 fn plan_into_room<const P: u32, K: QuarticParameters<P>>(
     alloc: Global,
@@ -65,10 +79,11 @@ fn plan_into_room<const P: u32, K: QuarticParameters<P>>(
     room: usize,
 ) -> Result<BatchPlan<MontyField31<P, K>>, Fault>
     ensures { MatchResult result (λ plan. IsPlanOfTables airs.now (plan_of plan)
-        × (length (flat_map id_items plan.ids.items) ≡ room))
+        × (length (flat_map id_items plan.ids.items) ≡ room) × All HasRows airs.now)
         (IsPlanCallRefusal P airs.now room) }
 {
     let plan = plan_of::<P, K>(alloc, airs)?;
+    check_rows(airs)?;
     let Some(expected) = id_count(plan.ids()) else {
         return Err(Fault::Memory);
     };
@@ -105,7 +120,10 @@ pub(crate) fn answer_plan<const P: u32, K: QuarticParameters<P>>(
 /// Gives the plan of a batch: an id for each lookup, AIR by AIR, and its sizes.
 ///
 /// Lookups on one bus share an id, and each local lookup has its own. Where the AIRs have ids, these are the ids,
-/// and there are as many as the greatest of them and one.
+/// and there are as many as the greatest of them and one. `volgwain_prove` and `volgwain_grid_count` make a prefix
+/// for each number below that many; all other calls make those of the ids in use alone.
+///
+/// Refuses an AIR that has lookups and no row.
 ///
 /// Answers 0, or the code of a refusal. A refused call leaves the ids and the sizes as they were.
 #[unsafe(no_mangle)]

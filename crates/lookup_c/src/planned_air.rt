@@ -27,8 +27,8 @@ pub(crate) struct InPlan<'a> {
 pub(crate) struct PlannedAir<F, EF> {
     pub(crate) lookups: Vec<Lookup<F>>,
     pub(crate) traces: ReadTraces<F>,
-    /// The challenges of all ids of the plan.
-    pub(crate) challenges: Challenges<EF>,
+    /// An alpha and a beta for each lookup.
+    pub(crate) challenges: Vec<EF>,
 }
 
 /// Whether all ids are below a number.
@@ -46,16 +46,16 @@ fn check_given_ids(ids: &[usize], num_ids: usize) -> Result<(), Fault>
     Ok(())
 }
 
-/// The challenges of the plan of these sizes, which has these ids.
+/// The challenges of these ids under a plan of these sizes: an alpha and a beta for each id.
 fn challenges_of_plan<const P: u32, K: QuarticParameters<P>>(
     alloc: Global,
     ids: &[usize],
     sizes: &PlanSizes,
     alpha: MontyQuartic<P, K>,
     beta: MontyQuartic<P, K>,
-) -> Result<Challenges<MontyQuartic<P, K>>, Fault>
+) -> Result<Vec<MontyQuartic<P, K>>, Fault>
     ensures { let R = ⟦<MontyQuartic<P, K> as PrimeCharacteristicRing>⟧.ring in
-        MatchResult result (ArePlannedChallenges R ids.now sizes.now alpha beta)
+        MatchResult result (λ v. ArePlannedChallenges R ids.now sizes.now alpha beta v.items)
         (IsPlannedIdsRefusal ids.now sizes.now) }
 {
     let width = sizes.max_message_width;
@@ -63,7 +63,7 @@ fn challenges_of_plan<const P: u32, K: QuarticParameters<P>>(
         return Err(Fault::Width);
     }
     check_given_ids(ids, sizes.num_ids)?;
-    Ok(Challenges::new(alloc, alpha, beta, width, sizes.num_ids)?)
+    Ok(Challenges::for_ids(alloc, alpha, beta, width, ids)?)
 }
 
 /// Reads an AIR of a planned batch.

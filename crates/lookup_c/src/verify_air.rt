@@ -64,8 +64,8 @@ fn check_air<const P: u32, K: QuarticParameters<P>>(
 
 /// Checks a result over lookups.
 ///
-/// Refuses lookups that do not fit their traces, another height, too few challenges, and then a result that
-/// does not satisfy the constraints.
+/// Refuses lookups that do not fit their traces or have no row to read, another height, too few challenges, and
+/// then a result that does not satisfy the constraints.
 fn verify_read<const P: u32, K: QuarticParameters<P>>(
     alloc: Global,
     traces: &ReadTraces<MontyField31<P, K>>,
@@ -86,8 +86,8 @@ fn verify_read<const P: u32, K: QuarticParameters<P>>(
 /// encode, in any prime field below 2^31.
 ///
 /// Refuses the first of these with a fault: the tables, the traces, the challenges, the numbers of the
-/// witness, whether the lookups fit the traces, the heights of the traces, the number of challenges, the
-/// shape of the witness, and a row on which a constraint is not zero.
+/// witness, whether the lookups fit the traces and have a row to read, the heights of the traces, the number
+/// of challenges, the shape of the witness, and a row on which a constraint is not zero.
 pub(crate) fn answer_verify_air<const P: u32, K: QuarticParameters<P>>(
     alloc: Global,
     tables: &Tables<'_>,
@@ -114,7 +114,8 @@ pub(crate) fn answer_verify_air<const P: u32, K: QuarticParameters<P>>(
 /// and a beta for each of them; further challenges are ignored.
 ///
 /// So a prover's own challenges can be given, whatever ids it has. That lookups on one bus share an alpha and a
-/// beta and others do not, and that the terminals of a batch sum to zero, is for the caller to see to.
+/// beta and others do not, and that the terminals of a batch sum to zero, is for the caller to see to. Of what
+/// passes, the terminal is the sum of all fractions.
 ///
 /// Answers 0 if they do, and otherwise the code of the first refusal.
 #[unsafe(no_mangle)]

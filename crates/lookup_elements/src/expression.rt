@@ -7,7 +7,6 @@ ghost use Rattle.lookup_elements.specs.Expressions.{cell_in, tree_in};
 
 use expressions::{BaseEntry, BaseLeaf, SymbolicExpression, SymbolicVariable};
 use field::PrimeCharacteristicRing;
-use field_words::times_one;
 use lookup_names::Value;
 use std::alloc::{AllocError, Global};
 
@@ -31,7 +30,7 @@ pub fn expression_of<F: PrimeCharacteristicRing>(
         Value::LastRow => Ok(SymbolicExpression::Leaf(BaseLeaf::IsLastRow)),
         Value::Transition => Ok(SymbolicExpression::Leaf(BaseLeaf::IsTransition)),
         Value::Number(number) => {
-            Ok(SymbolicExpression::Leaf(BaseLeaf::Constant(times_one(*number))))
+            Ok(SymbolicExpression::Leaf(BaseLeaf::Constant(F::from_u64(*number))))
         }
         Value::Negative(inner) => {
             let inner = expression_of(alloc, inner)?;

@@ -20,7 +20,7 @@ use Rattle.lookup_judge.specs.Causes.{AreItemsRefused, IsAirRefusal, IsFirstAirR
 use Rattle.lookup_judge.specs.Refusals.{of_batch, of_name}
 use Rattle.lookup_judge.specs.Said.{IsSaid, IsWhole, SaysOver}
 use Rattle.lookup_judge.specs.declared.fault.JudgeFault.{JudgeFault}
-use Rattle.lookup_judge.specs.declared.fault.JudgeFault.TheVariants.{Batch, Memory, Name}
+use Rattle.lookup_judge.specs.declared.fault.JudgeFault.TheVariants.{Batch, Element, Fit, Lookups, Memory, Name, Rows, Tables}
 
 -- the first item that is refused, behind those to which these are given
 pub first_refused : {X Y : Type 0} (Gives : X → Y → Type 0) (Refuses : ℕ → X → Type 0) (xs : List X) (ys : List Y) (i : ℕ) (x : X)
@@ -44,6 +44,17 @@ whole_table t =
 pub name_fault : {X : Type 0} (fault : NameFault) (read : Result X NameRefusal) → Fails fault read → (of_name fault ≡ Memory) ⊎ ((refusal : NameRefusal) × (read ≡ Err refusal) × (of_name fault ≡ Name refusal))
 name_fault faults.Memory read fails = inl refl
 name_fault (faults.Refused refusal) read fails = inr (refusal, fails, refl)
+
+-- memory ran out, or it did not
+pub memory_or_not : (e : JudgeFault) → (e ≡ Memory) ⊎ (e ≢ Memory)
+memory_or_not Memory = inl refl
+memory_or_not (Name refusal) = inr (λ is. absurd (cc is))
+memory_or_not (Element refusal) = inr (λ is. absurd (cc is))
+memory_or_not (Tables airs tables) = inr (λ is. absurd (cc is))
+memory_or_not (Rows air preprocessed) = inr (λ is. absurd (cc is))
+memory_or_not (Fit air fault) = inr (λ is. absurd (cc is))
+memory_or_not (Lookups air error) = inr (λ is. absurd (cc is))
+memory_or_not (Batch error) = inr (λ is. absurd (cc is))
 
 -- the refusal of a batch keeps its name, but for want of memory
 pub kept_refusal : (error : BatchError) → (of_batch error ≡ Memory) ⊎ ((error ≢ batch.Memory) × (of_batch error ≡ Batch error))

@@ -30,6 +30,7 @@ use Rattle.batch.specs.Plans.{Plan}
 use Rattle.batch.specs.SoundnessCounts.{CountsPlan}
 use Rattle.batch.specs.Traces.{view_of}
 use Rattle.batch.specs.declared.error.BatchError.{BatchError}
+use Rattle.batch.specs.declared.error.BatchError.TheVariants as batch
 use Rattle.batch.specs.declared.heights.HeightSoundness.{HeightSoundness}
 use Rattle.batch.specs.declared.trace.BatchTrace.{BatchTrace}
 use Rattle.lookup_judge.specs.Refusals.{of_batch, of_lookups}
@@ -165,11 +166,12 @@ module _ {F K : Type 0} (E : Extension F K) (p : ℕ) (text : List ℕ) (section
       × (IsPlanningRefusal p (sized_over lookups shapes) e
       ⊎ ((plan : Plan F) × IsPlanOf p (sized_over lookups shapes) plan × IsReportRefusal E.base E.base_eq max_degree (sized_over lookups shapes) plan e))))))
 
-  -- the messages of a plan over traces cannot be counted, or else what is found of the plan is refused
+  -- The messages of a plan over traces cannot be counted, for another cause than want of memory; or else what is found
+  -- of the plan is refused.
   abbrev pub IsCountedRefusal : List (Traced F) → Plan F → JudgeFault → Type 0
   IsCountedRefusal traced plan e =
       (traces : List (BatchTrace F)) × (map view_of traces ≡ map (λ t. t.traces) traced)
-      × (((error : BatchError) × CountsPlan E plan traces (Err error) × (e ≡ of_batch error))
+      × (((error : BatchError) × CountsPlan E plan traces (Err error) × (error ≢ batch.Memory) × (e ≡ of_batch error))
       ⊎ ((counts : SoundnessCount) × CountsPlan E plan traces (Ok counts) × IsReportRefusal E.base E.base_eq max_degree (map sized_of traced) plan e))
 
   -- Why a batch over tables is not judged: a bus that is declared twice, its AIRs over their tables, its plan, its

@@ -65,8 +65,8 @@ module _ {F : Type 0} where
   IsPlanOf p airs plan = (copies : List (Lookups F)) × AreCopies airs copies × IsPlanFor copies (map (λ a. a.rows) airs) plan × IsPlan p plan
 
 -- What is found of an AIR: its sizes and the degree of each lookup; and of each column that is left once copies of its
--- lookups are packed within a degree, its degree and which lookups share it. These columns are the fewest, and send
--- what the lookups do.
+-- lookups are packed within a degree, its degree and which lookups share it. These columns send what the lookups do, and
+-- no consecutive split of the lookups of a bus, in their order and within the degree, has fewer.
 pub record IsAirFound {F : Type 0} (R : Ring F) (eq : F → F → Bool) (max_degree : ℕ) (a : Sized F) (found : AirReport) : Type 0 where
   pub rows : found.rows ≡ a.rows
   pub columns : found.columns ≡ a.columns

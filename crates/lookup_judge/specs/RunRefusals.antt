@@ -32,16 +32,18 @@ use Rattle.lookup_judge.specs.Causes.{HasNoPlan, IsBusRefusalOr, IsFirstElementR
 use Rattle.lookup_judge.specs.Runs.{IsReadRun}
 use Rattle.lookup_judge.specs.Said.{SayOver, airs_of}
 use Rattle.lookup_judge.specs.declared.fault.JudgeFault.{JudgeFault}
+use Rattle.lookup_judge.specs.declared.fault.JudgeFault.TheVariants as judge
 use Rattle.lookup_judge.specs.declared.refusal.RunRefusal.{RunRefusal}
 use Rattle.lookup_judge.specs.declared.refusal.RunRefusal.TheVariants.{Memory}
 
--- the text cannot be read, or else the tables or sizes of its AIRs cannot, or else a later step is refused
+-- The text cannot be read, or else the tables or sizes of its AIRs cannot, or else a later step is refused, for another
+-- cause than want of memory.
 abbrev pub IsReadingRefused : {X : Type 0} → List ℕ → (List Section → Result X TableRefusal) → (List Section → X → JudgeFault → Type 0) → Type 0
 IsReadingRefused {X} text reading Later =
     ((fault : Fault) × (batch_at text ≡ Err fault))
     ⊎ ((sections : List Section) × (batch_at text ≡ Ok sections)
     × (((refusal : TableRefusal) × (reading sections ≡ Err refusal))
-    ⊎ ((x : X) × (reading sections ≡ Ok x) × (e : JudgeFault) × Later sections x e)))
+    ⊎ ((x : X) × (reading sections ≡ Ok x) × (e : JudgeFault) × (e ≢ judge.Memory) × Later sections x e)))
 
 module _ {F K : Type 0} (fields : Fields F K) (text : List ℕ) (files : List File) where
   -- why `check` is refused

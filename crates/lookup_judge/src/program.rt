@@ -61,7 +61,8 @@ impl Answer {
 /// `output`. If the answer cannot be written, a part of it may be in `output`, and `errors` gets a line
 /// that says so. The status is 0 if the answer is yes, 1 if it is no, and 2 if the run is refused or a
 /// write fails. Tested, and not proved: what a refusal says; that what goes to `errors` is whole unless
-/// a write fails; and that an answer ends with status 2 only where one does.
+/// a write fails; that an answer ends with status 2 only where one does; and that `accept` refuses no
+/// text of a witness.
 ///
 /// The answer to `check` is whether all messages balance, to `plan` and `bits` whether as many bits are
 /// left as are wanted, to `accept` whether the witness is accepted, and to `any` whether any is; to the

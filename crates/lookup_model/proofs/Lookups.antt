@@ -1,5 +1,6 @@
 -- Lookups: their faults and flags, their plain result, nets of keys, and that the plain result
 -- satisfies the constraints.
+pub mod FractionSums
 pub mod KeyLaws
 pub mod LookupFaults
 pub mod PlainResults

@@ -2,7 +2,7 @@
 ghost use Rattle.std.specs.Prelude.{◌≡◌, ◌*◌, ◌<◌, All, IfOk, length, map};
 ghost use Rattle.std.specs.Box.{boxed_slice_items};
 ghost use Rattle.std.specs.List.{range_with_len};
-ghost use Rattle.lookup_model.specs.Challenges.{column_challenges, prefix_of_bus, table_of};
+ghost use Rattle.lookup_model.specs.Challenges.{bus_table, column_challenges, prefix_of_bus, table_of};
 ghost use Rattle.field.specs.Ring.{power};
 ghost use Rattle.lookup_model.specs.Points.{HasPoints};
 
@@ -83,7 +83,7 @@ impl<EF: Field> Challenges<EF> {
     }
 
     /// The challenges of the columns of one AIR whose lookups have these bus ids, in order: for
-    /// each id its prefix and then `beta`.
+    /// each id its prefix and then `beta`. [`for_ids`](Challenges::for_ids) makes them without a table.
     ///
     /// Fails only when out of memory.
     pub fn for_columns(&self, alloc: Global, ids: &[usize]) -> Result<Vec<EF>, AllocError>
@@ -96,6 +96,31 @@ impl<EF: Field> Challenges<EF> {
         for id in ids {
             challenges.push(self.bus_prefix[*id])?;
             challenges.push(self.beta)?;
+        }
+        Ok(challenges)
+    }
+
+    /// The challenges that [`new`](Challenges::new) and then [`for_columns`](Challenges::for_columns) give for
+    /// these bus ids. Only their prefixes are made, so memory and time do not depend on how great the ids are.
+    ///
+    /// Fails only when out of memory.
+    pub fn for_ids(
+        alloc: Global,
+        alpha: EF,
+        beta: EF,
+        max_message_width: usize,
+        ids: &[usize],
+    ) -> Result<Vec<EF>, AllocError>
+        requires { 0 < max_message_width }
+        ensures challenges { IfOk result (λ v. v.items
+            ≡ column_challenges (bus_table EF.ring max_message_width beta alpha) ids.now) }
+        ensures len { IfOk result (λ v. length v.items ≡ 2 * length ids.now) }
+    {
+        let step = positive_power(beta, max_message_width);
+        let mut challenges = Vec::new(alloc);
+        for id in ids {
+            challenges.push(alpha + (EF::from_u64(*id as u64) * step + step))?;
+            challenges.push(beta)?;
         }
         Ok(challenges)
     }

@@ -8,7 +8,7 @@ ghost use Rattle.lookup_text.specs.Tables.{AreRows, rows_at};
 ghost use Rattle.lookup_text.specs.Tokens.{Token};
 
 /// The formula that is read is said by the tokens that were taken. Tokens that say a formula are
-/// read as that one, whatever stands after them with which no expression goes on, unless it has
+/// read as that one, whatever stands after them with which no expression goes on, or refused for
 /// too many layers. So no tokens say two formulas that are read.
 pub fn formulas_are_said()
     ensures found { (ts rest : List Token) (f : Formula) → formula_at ts ≡ Ok (f, rest)

@@ -129,6 +129,8 @@ fn on_table(alloc: Global, out: &mut Out, table: &Challenges<F7>) {
     show(out, "Challenges::new", answer.map(|table| table.bus_prefix));
     if table.bus_prefix.len() > 1 {
         show(out, "for_columns", table.for_columns(alloc, &[1, 0]));
+        let answer = Challenges::for_ids(alloc, F7::new(5), F7::new(2), 1, &[1, 0]);
+        show(out, "for_ids", answer);
     }
     show(out, "input", &table.bus_prefix);
 }

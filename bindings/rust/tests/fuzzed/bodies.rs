@@ -1,7 +1,9 @@
 //! What the fuzz targets do with bytes. Whatever these are, each call answers, and its answers keep
 //! the laws below.
 
-use volgwain::{Air, Batch, Code, Count, Element, Error, Expr, Lookup, MODULUS, Message, Traces};
+use volgwain::{
+    Air, AirWitness, Batch, Code, Count, Element, Error, Expr, Lookup, MODULUS, Message, Traces,
+};
 
 /// How far the lookups of an input came.
 #[derive(Clone, Copy, Debug, PartialEq, Eq, PartialOrd, Ord)]
@@ -198,8 +200,8 @@ fn finds_what_does_not_balance(air: &Air, traces: &Traces<'_>) {
     }
 }
 
-/// The laws of challenges of one's own: lookups that do not fit are refused, and what is generated is
-/// satisfied.
+/// The laws of challenges of one's own: lookups that do not fit are refused, what is generated is
+/// satisfied, and over no rows no terminal is.
 fn verifies_what_is_generated(air: &Air, traces: &Traces<'_>) {
     let challenge = |at: u32| [Element::new([9, 2, 6, 5 + at]), Element::new([3, 1, at, 15])];
     let own: Vec<[Element; 2]> = (0..).map(challenge).take(air.len()).collect();
@@ -212,6 +214,12 @@ fn verifies_what_is_generated(air: &Air, traces: &Traces<'_>) {
         }
         Err(refusal) => assert_eq!(fault.is_some(), refusal.code() == Code::DoesNotFit),
     }
+    let no_rows = Traces::new(&[], WIDTHS[0])
+        .with_preprocessed(&[], WIDTHS[1])
+        .with_public_values(traces.public_values);
+    let terminal = Some(Element::from(5));
+    let part = AirWitness { auxiliary: &[], width: air.len() + 1, terminal };
+    assert!(air.verify(&no_rows, &own, &part).is_err(), "a terminal over no rows");
 }
 
 /// The laws of a batch of one AIR: what is proved is accepted if it balances, and no witness is with
@@ -238,7 +246,7 @@ fn proves(batch: &Batch, traces: &Traces<'_>, data: &[u8]) -> Reached {
         let at = data.iter().map(|&it| usize::from(it)).sum::<usize>() % cells.len();
         let [first, rest @ ..] = cells[at].coefficients();
         cells[at] = Element::new([(first + 1) % MODULUS, rest[0], rest[1], rest[2]]);
-        let changed = volgwain::AirWitness { auxiliary: &cells, ..part };
+        let changed = AirWitness { auxiliary: &cells, ..part };
         let changed = volgwain::Witness::new([changed]);
         let refusal = batch.verify(&traces, alpha, beta, &changed);
         let code = refusal.expect_err("another cell").code();

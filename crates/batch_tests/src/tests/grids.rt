@@ -239,9 +239,10 @@ fn bad_betas(rt: &impl Abort, alloc: Global, plan: &BatchPlan<F7>, row: &[u32]) 
 /// Fails unless no batch of the plan has more bad betas than `W * (k - 1)`, where `W` is 1, with all elements
 /// and counts of `F7`.
 ///
-/// A shift of all elements shifts all points, and so the accepting alphas; a factor of all counts is one of
-/// all fractions. So the first element is 0, and the first two counts are 1 and some count, 0 and 1, or both
-/// 0.
+/// A shift of all elements shifts all points, and so the accepting alphas; a factor of all elements and of
+/// beta is one of all points, and a factor of all counts one of all fractions. So the first element is 0, and
+/// the next two are 0 and 0, 0 and 1, or 1 and any; the first two counts are 1 and some count, 0 and 1, or
+/// both 0.
 fn stays_within_the_linear_bound(rt: &impl Abort, plan: &BatchPlan<F7>, alloc: Global) {
     let starts: [(u32, u32); 9] = [
         (1, 0),
@@ -255,9 +256,10 @@ fn stays_within_the_linear_bound(rt: &impl Abort, plan: &BatchPlan<F7>, alloc: G
         (0, 0),
     ];
     for (first, second) in starts {
-        for number in 0..343u32 {
-            let (one, other) = (number % 7, number / 7 % 7);
-            let row = [0, one, other, first, second, number / 49, 0];
+        for number in 0..63u32 {
+            let pair = number / 7;
+            let (one, other) = if pair < 2 { (0, pair) } else { (1, pair - 2) };
+            let row = [0, one, other, first, second, number % 7, 0];
             let (bad, most) = bad_betas(rt, alloc, plan, row.as_slice());
             holds(rt, "within the linear bound", bad <= most);
         }

@@ -230,10 +230,9 @@ fn until_around(
     assert!(rt; instance_fits(part) && are_below(part.ids, challenges.bus_prefix.len()));
     assert!(rt; rows.first < rows.end && rows.end <= rows.height);
     assert!(rt; part.main.height() == rows.rows_around());
+    let columns = challenges.for_columns(alloc, part.ids).expect(rt, "memory");
     match check_shape(0, part, aux, terminal) {
-        Ok(()) => rows_hold_around(alloc, part, challenges, aux, terminal, rows).expect(
-            rt, "memory",
-        ),
+        Ok(()) => rows_hold_around(alloc, part, &columns, aux, terminal, rows).expect(rt, "memory"),
         Err(_) => panic!(rt; "another shape"),
     }
 }

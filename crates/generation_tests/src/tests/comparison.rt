@@ -179,19 +179,28 @@ fn range_row(code: u32) -> [u32; 3] {
     [code / 49, code / 7 % 7, code % 7]
 }
 
-#[test]
-fn one_row_against_the_plain_program(rt: HostRuntime) {
-    let alloc = rt.alloc();
-    let lookups = [range(&rt, alloc, 0)];
-    for alpha in 0..7 {
+/// Compares both on every row, at every beta and the alphas from `first` to before `end`.
+fn compare_rows(rt: &impl Abort, alloc: Global, first: u32, end: u32) {
+    let lookups = [range(rt, alloc, 0)];
+    for alpha in first..end {
         for beta in 0..7 {
             for code in 0..343 {
                 let challenges = [F7::new(alpha), F7::new(beta)];
                 let rows = [range_row(code)];
-                compare_ranges(&rt, alloc, lookups.as_slice(), &rows, &challenges);
+                compare_ranges(rt, alloc, lookups.as_slice(), &rows, &challenges);
             }
         }
     }
+}
+
+#[test]
+fn one_row_at_alphas_below_three(rt: HostRuntime) {
+    compare_rows(&rt, rt.alloc(), 0, 3);
+}
+
+#[test]
+fn one_row_at_alphas_from_three(rt: HostRuntime) {
+    compare_rows(&rt, rt.alloc(), 3, 7);
 }
 
 /// The row of this code, which is below 98: its multiplicity is 0 or 1.
@@ -199,17 +208,26 @@ fn row_of_one(code: u32) -> [u32; 3] {
     [code / 14, code / 2 % 7, code % 2]
 }
 
-#[test]
-fn two_rows_against_the_plain_program(rt: HostRuntime) {
-    let alloc = rt.alloc();
-    let lookups = [range(&rt, alloc, 0)];
+/// Compares both on every pair of rows of which the first has a code from `first` to before `end`.
+fn compare_pairs(rt: &impl Abort, alloc: Global, first: u32, end: u32) {
+    let lookups = [range(rt, alloc, 0)];
     let challenges = [F7::new(0), F7::new(2)];
-    for first in 0..98 {
-        for second in 0..98 {
-            let rows = [row_of_one(first), row_of_one(second)];
-            compare_ranges(&rt, alloc, lookups.as_slice(), &rows, &challenges);
+    for one in first..end {
+        for other in 0..98 {
+            let rows = [row_of_one(one), row_of_one(other)];
+            compare_ranges(rt, alloc, lookups.as_slice(), &rows, &challenges);
         }
     }
+}
+
+#[test]
+fn two_rows_whose_first_has_a_low_code(rt: HostRuntime) {
+    compare_pairs(&rt, rt.alloc(), 0, 49);
+}
+
+#[test]
+fn two_rows_whose_first_has_a_high_code(rt: HostRuntime) {
+    compare_pairs(&rt, rt.alloc(), 49, 98);
 }
 
 /// The flags of a row, and the messages of its branches.

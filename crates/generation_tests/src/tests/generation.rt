@@ -23,6 +23,16 @@ fn prefixes_of_two_buses(rt: HostRuntime) {
     holds(&rt, "columns", are_these);
 }
 
+// The prefix of id 2^31 is 5 + (2^31 + 1) * 8, and 2^31 is 134217727 modulo 2013265921.
+#[test]
+fn challenges_of_ids_alone(rt: HostRuntime) {
+    let (alpha, beta) = (BabyBear::new(5), BabyBear::new(2));
+    let ids = [1, 0, 2_147_483_648];
+    let columns = Challenges::for_ids(rt.alloc(), alpha, beta, 3, &ids).expect(&rt, "memory");
+    let are_these = are_numbers(columns.as_slice(), &[21, 2, 13, 2, 1_073_741_829, 2]);
+    holds(&rt, "columns", are_these);
+}
+
 /// What generation makes of the lookup of a tuple of all cells with count 1, over one row.
 fn of_one_row<EF: ExtensionField<BabyBear>>(
     rt: &impl Abort,

@@ -2,7 +2,7 @@
 use super::holds;
 use expressions::{BaseEntry, BaseLeaf, SymbolicExpression};
 use field::{BabyBear, BabyBear4, F7, PrimeCharacteristicRing};
-use field_words::{Challenge, elements_of, number, times_one};
+use field_words::{Challenge, elements_of, number};
 use goldilocks::{Goldilocks, Goldilocks2};
 use lookup_elements::{expression_of, has_whole_rows, lookups_over, matrix_of};
 use lookup_model::{Kind, Lookup};
@@ -11,7 +11,7 @@ use lookup_text::{SectionText, Table, read_batch, read_table};
 use std::alloc::{AllocError, Global};
 
 fn baby_bear(number: u64) -> BabyBear {
-    times_one(number)
+    BabyBear::from_u64(number)
 }
 
 // 2013265921 + 5 is 5, and 2^64 - 1 = 9162596893 * 2013265921 + 1172168162.
@@ -120,18 +120,13 @@ fn lookups(rt: HostRuntime) {
     }
 }
 
-// 2^64 - 1 = 7 * 2635249153387078802 + 1; and it is 2^32 - 2 above the modulus of Goldilocks.
 #[test]
 fn words(rt: HostRuntime) {
     holds(&rt, "zeros", number(b"007", 8) == Some(7));
     holds(&rt, "not below", number(b"8", 8).is_none());
     holds(&rt, "no digit", number(b"+7", 8).is_none());
-    let greatest = times_one::<F7>(u64::MAX);
-    holds(&rt, "2^64 - 1 modulo 7", greatest == F7::ONE);
-    let greatest = times_one::<Goldilocks>(u64::MAX).as_canonical_u64();
-    holds(&rt, "and over Goldilocks", greatest == 4_294_967_294);
     holds(&rt, "of F7", F7::from_word(b"6") == Some(F7::new(6)));
-    let pair = Goldilocks2::new([times_one(3), times_one(1)]);
+    let pair = Goldilocks2::new([Goldilocks::from_u64(3), Goldilocks::from_u64(1)]);
     holds(&rt, "two", Goldilocks2::from_word(b"3,1") == Some(pair));
     holds(
         &rt,

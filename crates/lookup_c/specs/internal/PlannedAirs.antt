@@ -26,7 +26,7 @@ pub record IsRead {p : ℕ} (positive : 0 < p) (R : Ring (Quartic (Residue p))) 
   pub b : Quartic (Residue p)
   pub is : IsPlannedAir positive tables traces plan.ids.now plan.sizes.now plan.alpha.now plan.beta.now air.lookups.items a b
   pub traces_are : view_of_read air.traces ≡ decoded_traces positive traces
-  pub challenges_are : ArePlannedChallenges R plan.ids.now plan.sizes.now a b air.challenges
+  pub challenges_are : ArePlannedChallenges R plan.ids.now plan.sizes.now a b air.challenges.items
 
 -- the refusal of the AIR
 abbrev pub IsReadRefusal : {p : ℕ} → 0 < p → Tables → Traces → InPlan → Fault → Type 0

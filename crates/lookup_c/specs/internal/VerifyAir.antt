@@ -3,7 +3,7 @@ use Rattle.std.specs.Prelude.{◌<◌, ℕ, List, MatchResult, Result}
 use Rattle.field.specs.Extension.{Extension}
 use Rattle.field.specs.Quartic.{Quartic}
 use Rattle.field.specs.Residue.{Residue}
-use Rattle.lookup_model.specs.Witness.{IsSatisfied}
+use Rattle.lookup_model.specs.Witness.{IsSatisfied, TerminalIsSum}
 use Rattle.lookup_model.specs.declared.types.Lookup.{Lookup}
 use Rattle.lookup_tables.specs.declared.tables.Tables.{Tables}
 use Rattle.lookup_tables.specs.declared.traces.ReadTraces.{ReadTraces}
@@ -15,9 +15,9 @@ use Rattle.lookup_c.specs.declared.verify_air.ReadResult.{ReadResult}
 use Rattle.lookup_c.specs.declared.witness.AirWitness.{AirWitness}
 
 module _ {F K : Type 0} (E : Extension F K) (traces : ReadTraces F) (lookups : List (Lookup F)) (challenges : List K) (read : ReadResult K) where
-  -- the result that was read satisfies the constraints
+  -- the result that was read satisfies the constraints, and its terminal is the sum of its fractions
   abbrev pub SatisfiesRead : Type 0
-  SatisfiesRead = IsSatisfied E (view_of_read traces) lookups challenges read.auxiliary read.terminal
+  SatisfiesRead = IsSatisfied E (view_of_read traces) lookups challenges read.auxiliary read.terminal × TerminalIsSum E (view_of_read traces) lookups read.auxiliary read.terminal
 
   -- the refusal of a result that does not; or memory runs out
   abbrev pub IsUnsatisfiedReadRefusal : Fault → Type 0

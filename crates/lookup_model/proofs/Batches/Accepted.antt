@@ -1,7 +1,7 @@
 -- A witness is accepted exactly where solutions of the equations of a batch can sum to zero. The
 -- fractions of a satisfied witness solve them, and its terminals are their sums; and solutions make
 -- such a witness.
-use Rattle.std.proofs.Common.{◌≡◌, ℕ, zero, suc, ◌+◌, ◌<◌, Option, Some, List, [], ◌∷◌, length, map, slice_index_or, refl, sym, ap, subst, ◌∙◌, arith, None, ◌++◌, take, get_or, ◌↔◌}
+use Rattle.std.proofs.Common.{◌≡◌, ℕ, zero, suc, ◌+◌, ◌-◌, ◌<◌, Option, Some, List, [], ◌∷◌, length, map, slice_index_or, refl, sym, ap, subst, ◌∙◌, arith, None, ◌++◌, take, get_or, ◌↔◌}
 use Rattle.std.proofs.lemmas.List.{append-nil, length-map, take_all, take_more}
 use Rattle.std.specs.List.{AllByRecursion, AllZip, flat_map, range_with_len}
 use Rattle.std.proofs.lemmas.Grind.{flat_map-append}
@@ -30,7 +30,8 @@ use Rattle.lookup_model.specs.Batches.Witnesses.{AirResult, AreSatisfied, IsSati
 use Rattle.lookup_model.specs.Records.{AreRecords}
 use Rattle.lookup_model.specs.Batches.Existence.{HasAccepted}
 use Rattle.lookup_model.proofs.SumLaws.{sum_in-append}
-use Rattle.lookup_model.proofs.Lookups.SatisfiedWitnesses.{first_accumulator, fraction_zeros, last_accumulator, next_accumulator}
+use Rattle.lookup_model.proofs.Lookups.FractionSums.{terminal_is_sum}
+use Rattle.lookup_model.proofs.Lookups.SatisfiedWitnesses.{fraction_zeros}
 use Rattle.lookup_model.proofs.Lookups.PlainResults.{shape-none, shape-some}
 use Rattle.lookup_model.proofs.Batches.SolutionSums.{sum_of_none, sums_together, none_sums, sums_apart}
 use Rattle.lookup_model.proofs.Lookups.RunningSums.{auxiliary, running_satisfied}
@@ -49,39 +50,16 @@ module _ {F K : Type 0} {E : Extension F K} (laws : IsLawful E) (table : Challen
     solved_on r lt =
         AllZip-of_one (Solves E.ring) (equation_at E (challenged_window E table i r)) (λ lookup. fraction_at E lookup.column (window_of r)) i.lookups
         (all_weaker _ (λ lookup. Solves E.ring (equation_at E (challenged_window E table i r) lookup) (fraction_at E lookup.column (window_of r)))
-        (λ lookup is_zero. same_from_difference laws.ring _ _ is_zero) i.lookups (fraction_zeros laws i.traces i.lookups (column_challenges table i.ids) auxiliary terminal satisfied r lt))
-
-    -- from each row on, the accumulator and the fractions sum to the terminal
-    summed_from : (a m : ℕ) → a + suc m ≡ height i.traces.main → E.ring.add (accumulator_at E (window_of a)) (sum_in E.ring (flat_map fractions_on (range_with_len a (suc m)))) ≡ terminal_at E (window_of a)
-    summed_from a zero at =
-        ap (λ fs. E.ring.add (accumulator_at E (window_of a)) (sum_in E.ring fs)) (append-nil (fractions_on a))
-        ∙ sym (last_accumulator laws i.traces i.lookups (column_challenges table i.ids) auxiliary terminal satisfied some a (omega (arith, at)))
-    summed_from a (suc m) at =
-        let rest = flat_map fractions_on (range_with_len (a + 1) (suc m)) in
-        ap (E.ring.add (accumulator_at E (window_of a))) (sum_in-append laws.ring (fractions_on a) rest)
-        ∙ sym (laws.ring.add_assoc (accumulator_at E (window_of a)) (sum_in E.ring (fractions_on a)) (sum_in E.ring rest))
-        ∙ ap (λ t. E.ring.add t (sum_in E.ring rest)) (sym (next_accumulator laws i.traces i.lookups (column_challenges table i.ids) auxiliary terminal satisfied some a (omega (arith, at))))
-        ∙ summed_from (a + 1) m (omega (arith, at))
-
-    all_summed : (n : ℕ) → n ≡ height i.traces.main → sum_in E.ring (flat_map fractions_on (range_with_len 0 n)) ≡ terminal_at E (window_of 0)
-    all_summed zero at = absurd (omega (arith, at, nonempty))
-    all_summed (suc m) at =
-        let total = sum_in E.ring (flat_map fractions_on (range_with_len 0 (suc m))) in
-        let first = first_accumulator laws i.traces i.lookups (column_challenges table i.ids) auxiliary terminal satisfied some nonempty in
-        sym (zero_add laws.ring total) ∙ ap (λ t. E.ring.add t total) (sym first) ∙ summed_from 0 m (omega (arith, at))
-
-    terminal_is : (t : LookupTerminal K) → terminal ≡ Some t → terminal_at E (window_of 0) ≡ terminal_value E.ring terminal
-    terminal_is t is =
-        ap (λ o. slice_index_or (values_of_terminal o) 0 E.ring.zero) is ∙ ap (terminal_value E.ring) (sym is)
+        (λ lookup is_zero. same_from_difference laws.ring _ _ is_zero) i.lookups (fraction_zeros laws i.traces i.lookups (column_challenges table i.ids) auxiliary terminal r (satisfied.equations r lt)))
 
     -- an AIR with lookups
     some_sums : CanSumTo E.ring (air_equations E table i) (terminal_value E.ring terminal)
     some_sums =
-        let present = (shape-some i.lookups (height i.traces.main) auxiliary terminal some satisfied.shape).2 in
+        let all_rows : height i.traces.main ≡ height i.traces.main - 0 = omega arith in
         record {
           fractions = flat_map fractions_on (range_with_len 0 (height i.traces.main));
           solve = AllZip-flat_of_one (Solves E.ring) (λ r. row_equations E (challenged_window E table i r) i.lookups) fractions_on (range_with_len 0 (height i.traces.main)) (all_range _ 0 (height i.traces.main) (λ r lt. solved_on r (omega (arith, lt))));
-          sum = all_summed (height i.traces.main) refl ∙ terminal_is present.0 present.1;
+          sum = ap (λ (n : ℕ). sum_in E.ring (flat_map fractions_on (range_with_len 0 n))) all_rows ∙ sym (terminal_is_sum laws i.traces i.lookups (column_challenges table i.ids) auxiliary terminal (λ _. nonempty) satisfied);
         }
 
   -- the terminal of an AIR is a sum of its fractions

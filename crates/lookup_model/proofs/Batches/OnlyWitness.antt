@@ -146,7 +146,7 @@ module _ {F K : Type 0} {E : Extension F K} (laws : IsLawful E) (challenges : Li
         let over_column : List F → K = column_denominator E challenges lookup.column in
         let same : IfSome flags (λ fs. length fs ≡ length bs) =
         as_many_flags laws challenges lookup.column r w lookup.flags (length bs) (λ fs has. lengths.flags fs has ∙ sym (length-branches_at E.base w lookup.column lookup lengths)) in
-        let zeros = fraction_zeros laws traces lookups challenges auxiliary terminal satisfied r lt in
+        let zeros = fraction_zeros laws traces lookups challenges auxiliary terminal r (satisfied.equations r lt) in
         let here : IsZeroAt r (fraction_constraint E lookup) =
         subst (λ (l : Lookup F). IsZeroAt r (fraction_constraint E l)) (sym is) (all_here (λ l. IsZeroAt r (fraction_constraint E l)) lookups k lookup below zeros) in
         one_fraction laws (fraction_denominator E over_column flags bs) (fraction_numerator E over_column flags bs) (fraction_at E lookup.column (window_of r)) (pf (sent_of r lookup))
@@ -167,12 +167,12 @@ module _ {F K : Type 0} {E : Extension F K} (laws : IsLawful E) (challenges : Li
 
     -- the accumulator of each row
     accumulator_is : (r : ℕ) → r < height traces.main → accumulator_at E (window_of r) ≡ plain_accumulator E den rows r
-    accumulator_is zero lt = first_accumulator laws traces lookups challenges auxiliary terminal satisfied some lt
+    accumulator_is zero lt = first_accumulator laws traces lookups challenges auxiliary terminal some (satisfied.equations 0 lt)
     accumulator_is (suc r) lt =
         let below : r < height traces.main = omega (arith, lt) in
         let more : r + 1 ≡ suc r = omega arith in
         ap (λ n. accumulator_at E (window_of n)) (sym more)
-        ∙ next_accumulator laws traces lookups challenges auxiliary terminal satisfied some r (omega (arith, lt))
+        ∙ next_accumulator laws traces lookups challenges auxiliary terminal some r (satisfied.equations r (omega (arith, lt))) (omega (arith, lt))
         ∙ (λ i. E.ring.add (accumulator_is r below i) (fractions_are r below i))
         ∙ sym (accumulator_after E den traces lookups laws r below)
         ∙ ap (plain_accumulator E den rows) more
@@ -229,7 +229,7 @@ module _ {F K : Type 0} {E : Extension F K} (laws : IsLawful E) (challenges : Li
           let lt : r < height traces.main = omega (arith, nonempty) in
           let last : r + 1 ≡ height traces.main = omega (arith, nonempty) in
           ap (λ o. slice_index_or (values_of_terminal o) 0 E.ring.zero) (sym is)
-          ∙ last_accumulator laws traces lookups challenges auxiliary terminal satisfied some r last
+          ∙ last_accumulator laws traces lookups challenges auxiliary terminal some r (satisfied.equations r (omega (arith, last))) last
           ∙ (λ i. E.ring.add (accumulator_is r lt i) (fractions_are r lt i))
           ∙ sym (accumulator_after E den traces lookups laws r lt)
           ∙ ap (λ t. sum_in E.ring (flat_map (λ s. map pf s) t)) (take_all (r + 1) rows (omega (arith, high, last)))

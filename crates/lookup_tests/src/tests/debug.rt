@@ -437,17 +437,26 @@ fn out_of_memory_as_text(rt: HostRuntime) {
 #[test]
 fn more_rows_than_are_kept(rt: HostRuntime) {
     let alloc = rt.alloc();
-    let mut numbers = Vec::new(alloc);
-    numbers.extend_from_slice(&[7, 1]).expect(&rt, "memory");
-    for pair in 0..140_000u32 {
-        let tuple = pair % 5;
-        numbers
-            .extend_from_slice(&[tuple, 1, tuple, 2_013_265_920])
+    let ends = [BabyBear::from_u32(7), BabyBear::ONE];
+    let mut pairs = Vec::new(alloc);
+    for number in 0..5u32 {
+        let tuple = BabyBear::from_u32(number);
+        pairs
+            .extend_from_slice(&[tuple, BabyBear::ONE, tuple, -BabyBear::ONE])
             .expect(&rt, "memory");
     }
-    numbers.extend_from_slice(&[7, 1]).expect(&rt, "memory");
+    let mut values = Vec::new(alloc);
+    values.extend_from_slice(&ends).expect(&rt, "memory");
+    for _ in 0..28_000u32 {
+        values
+            .extend_from_slice(pairs.as_slice())
+            .expect(&rt, "memory");
+    }
+    values.extend_from_slice(&ends).expect(&rt, "memory");
+    assert!(rt; values.len() % 2 == 0);
+    let main = RowMajorMatrix::new(values, 2);
     let lookups = [with_count(&rt, alloc, 1, 0)];
     let text =
         "Lookup mismatch (instance 0 local lookup 0): tuple [7] has net multiplicity 2 at instance 0 lookup 0 row 0; instance 0 lookup 0 row 280001";
-    expect_of_air::<BabyBear>(&rt, alloc, lookups.as_slice(), numbers.as_slice(), 2, text);
+    expect(&rt, alloc, &[instance(&main, lookups.as_slice())], text);
 }

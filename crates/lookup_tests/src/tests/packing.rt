@@ -540,12 +540,26 @@ fn expect_fewest(rt: &impl Abort, alloc: Global, length: usize, budget: usize) {
     }
 }
 
-/// All lists of at most five degrees from 0 to 4 within each budget from 1 to 6, against all splits.
-#[test]
-fn no_split_of_a_short_list_has_fewer_columns(rt: HostRuntime) {
-    for budget in 1..7usize {
+/// All lists of at most five degrees from 0 to 4 within these two budgets, against all splits.
+fn expect_fewest_of_all(rt: &impl Abort, alloc: Global, budgets: [usize; 2]) {
+    for budget in budgets {
         for length in 1..6usize {
-            expect_fewest(&rt, rt.alloc(), length, budget);
+            expect_fewest(rt, alloc, length, budget);
         }
     }
+}
+
+#[test]
+fn no_split_within_a_low_budget_has_fewer_columns(rt: HostRuntime) {
+    expect_fewest_of_all(&rt, rt.alloc(), [1, 2]);
+}
+
+#[test]
+fn no_split_within_a_middle_budget_has_fewer_columns(rt: HostRuntime) {
+    expect_fewest_of_all(&rt, rt.alloc(), [3, 4]);
+}
+
+#[test]
+fn no_split_within_a_high_budget_has_fewer_columns(rt: HostRuntime) {
+    expect_fewest_of_all(&rt, rt.alloc(), [5, 6]);
 }

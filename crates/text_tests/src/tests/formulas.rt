@@ -1,6 +1,6 @@
 //! Expressions.
 use super::{holds, is_at};
-use lookup_text::{TextFault, Tree, Why, read_formula, tokens};
+use lookup_text::{TextFault, Tree, Why, formulas_are_said, read_formula, tokens};
 use std::alloc::Global;
 
 /// The value of an expression, where a name is a thousand times the byte at which it stands, and
@@ -40,6 +40,7 @@ fn is(alloc: Global, text: &[u8], wanted: u64, left: usize) -> bool {
 #[test]
 fn operators(rt: HostRuntime) {
     let alloc = rt.alloc();
+    formulas_are_said();
     holds(&rt, "from the left", is(alloc, b"10 - 3 - 2", 5, 2));
     holds(
         &rt,

@@ -1,9 +1,10 @@
 //! What names and messages mean.
 use super::holds;
 use lookup_names::{
-    Defined, NameFault, NameRefusal, NameWhy, NamedMessage, Scope, Value, named_message, value_of,
+    Defined, NameFault, NameRefusal, NameWhy, NamedMessage, Scope, Value, bytes_of, copy_of,
+    named_message, value_of,
 };
-use lookup_text::{ItemText, MessageText, SectionText, read_batch, read_formula, tokens};
+use lookup_text::{ItemText, MessageText, SectionText, Span, read_batch, read_formula, tokens};
 use std::alloc::{AllocError, Global};
 
 /// A number for a value: a cell is 1,000 or 2,000 with its row as hundreds and its column, a public
@@ -164,6 +165,42 @@ fn sizes(rt: HostRuntime) {
     );
     holds(&rt, "a cell", leaves(alloc, b"next(a)", 1, 0));
     holds(&rt, "a cube", leaves(alloc, b"-x^3 + 1", 20, 12));
+}
+
+/// The number of a copy of `next(limb[3]) - 2 * pre.x`.
+fn copied(alloc: Global) -> Result<u64, AllocError> {
+    let cell = Value::Main {
+        offset: 1,
+        column: 1,
+    };
+    let fixed = Value::Preprocessed {
+        offset: 0,
+        column: 0,
+    };
+    let twice = Value::Product(Box::new(alloc, Value::Number(2))?, Box::new(alloc, fixed)?);
+    let value = Value::Difference(Box::new(alloc, cell)?, Box::new(alloc, twice)?);
+    Ok(number(&copy_of(alloc, &value)?))
+}
+
+#[test]
+fn copies(rt: HostRuntime) {
+    let minus = 0u64.wrapping_sub(2899);
+    holds(&rt, "a difference", copied(rt.alloc()) == Ok(minus));
+}
+
+/// Whether these are the bytes of a text from `start` up to `end`.
+fn stands(text: &[u8], start: usize, end: usize, wanted: &[u8]) -> bool {
+    bytes_of(text, Span { start, end }) == wanted
+}
+
+#[test]
+fn spans(rt: HostRuntime) {
+    let text = b"air t {";
+    holds(&rt, "a name", stands(text, 4, 5, b"t"));
+    holds(&rt, "the end", stands(text, 6, 7, b"{"));
+    holds(&rt, "nothing", stands(text, 3, 3, b""));
+    holds(&rt, "past the end", stands(text, 6, 8, b""));
+    holds(&rt, "back to front", stands(text, 3, 2, b""));
 }
 
 /// The first message of a text.

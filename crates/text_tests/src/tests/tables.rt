@@ -1,6 +1,6 @@
 //! Traces from CSV.
 use super::{holds, is_at};
-use lookup_text::{Why, read_table};
+use lookup_text::{Why, read_table, rows_are_read};
 use std::alloc::Global;
 
 /// Whether a text has these names and numbers, below 101.
@@ -18,6 +18,7 @@ fn has(alloc: Global, text: &[u8], names: &[&[u8]], cells: &[u64]) -> bool {
 #[test]
 fn numbers(rt: HostRuntime) {
     let alloc = rt.alloc();
+    rows_are_read();
     let text = b"\xef\xbb\xbfa,limb[3]\r\n007,-1\r\n100,-0\r\n";
     holds(
         &rt,

@@ -1,11 +1,10 @@
 use Rattle.std.proofs.Common.{take}
 use Rattle.std.specs.List.{AllByRecursion}
 use Rattle.field.specs.laws.Extension.{of_laws}
-use Rattle.lookup_model.specs.Challenges.{column_challenges, table_of}
 use Rattle.checker.specs.internal.Rows.{FractionHoldsAt}
 use Rattle.checker.specs.internal.TraceRows.{trace_window, window_over}
 use Rattle.checker.proofs.few_rows.fractions_hold.Given as goal
 
 abbrev pub invariant-loop-lookup : goal.invariant-loop-lookup
 invariant-loop-lookup g l =
-    AllByRecursion (FractionHoldsAt (of_laws g.met.EF.ExtensionField.lawful_fields) (window_over (trace_window l.row) l.cells (column_challenges (table_of l.challenges) l.ids))) (take l.lookup-index l.lookups)
+    AllByRecursion (FractionHoldsAt (of_laws g.met.EF.ExtensionField.lawful_fields) (window_over (trace_window l.row) l.cells l.challenges)) (take l.lookup-index l.lookups)

@@ -1,14 +1,13 @@
-use Rattle.std.proofs.Common.{◌≡◌, ◌∷◌, [], Some, ℕ, Result, Ok, Err, IfOk, ap, length, ◌∙◌, arith, rules}
+use Rattle.std.proofs.Common.{◌∷◌, [], Some, ℕ, Result, Ok, Err, IfOk, length, refl, arith}
 use Rattle.air.specs.Traces.{layout_of}
 use Rattle.field.specs.laws.Extension.{of_laws}
 use Rattle.lookup_model.proofs.Layouts.{LookupsFit-with_auxiliary}
 use Rattle.lookup_model.specs.Batches.Instances.{instance_of}
-use Rattle.lookup_model.specs.Challenges.{table_of}
 use Rattle.matrix.specs.Matrix.{height}
 use Rattle.checker.proofs.CheckedInputs.{shaped, some_lookups}
 use Rattle.checker.proofs.CheckLaws.{holds_from, zeros_from}
 use Rattle.checker.proofs.UntilLaws.{same_until}
-use Rattle.checker.specs.Ranges.{RowsHoldUntil}
+use Rattle.checker.specs.Columns.{ColumnsHoldUntil}
 use Rattle.checker.proofs.rows.many_hold_until.Goals as goal
 
 -- what follows of a number that is answered
@@ -20,27 +19,24 @@ pub chunks_hold_until-requires-clause-checked : goal.chunks_hold_until-requires-
 chunks_hold_until-requires-clause-checked g c =
     let i = c.args.instance.now in
     let some = some_lookups i.lookups.now (height i.main.now) c.args.aux.now c.args.terminal c.requires.shape in
-    let values_are : c.as_slice-2.result.now ≡ c.args.terminal.0 ∷ [] = search rules in
     let shape = shaped i.lookups.now (height i.main.now) c.args.aux.now (Some c.args.terminal) c.requires.shape some in
     record {
-      preprocessed = c.requires.fit.heights;
+      preprocessed = c.requires.columns.heights;
       permutation = shape.0;
-      fit = LookupsFit-with_auxiliary (layout_of (instance_of i).traces) c.args.aux.now.width (length c.as_slice.result.now) (length c.as_slice-2.result.now) i.lookups.now c.requires.fit.fit;
-      challenges = omega (arith, ap length c.as_slice.ensures.value, c.in_ok-columns.ensures.len, c.requires.fit.ids);
+      fit = LookupsFit-with_auxiliary (layout_of (instance_of i).traces) c.args.aux.now.width (length c.args.challenges.now) 1 i.lookups.now c.requires.columns.fit;
+      challenges = c.requires.columns.enough;
       some = some;
       cells = shape.1;
-      terminal = omega (arith, ap length values_are);
+      terminal = omega arith;
     }
 
 pub returns : goal.returns
 returns g c =
     let E = of_laws g.met.EF.ExtensionField.lawful_fields in
-    let table = table_of c.args.challenges.now in
     let i = instance_of c.args.instance.now in
     let aux = c.args.aux.now in
     let terminal = Some c.args.terminal in
-    let challenges_are = c.as_slice.ensures.value ∙ c.in_ok-columns.ensures.challenges in
-    let values_are : c.as_slice-2.result.now ≡ c.args.terminal.0 ∷ [] = search rules in
-    of_result (RowsHoldUntil E table i (aux, terminal) c.args.first c.args.end) c.chunks_hold_until.result _
-    (λ n. same_until (holds_from E table i aux terminal c.as_slice.result.now c.as_slice-2.result.now challenges_are values_are) (zeros_from E table i aux terminal c.as_slice.result.now c.as_slice-2.result.now challenges_are values_are) n)
+    let challenges = c.args.challenges.now in
+    of_result (ColumnsHoldUntil E i.traces i.lookups challenges (aux, terminal) c.args.first c.args.end) c.chunks_hold_until.result _
+    (λ n. same_until (holds_from E i.traces i.lookups challenges aux terminal (c.args.terminal.0 ∷ []) refl) (zeros_from E i.traces i.lookups challenges aux terminal (c.args.terminal.0 ∷ []) refl) n)
     c.chunks_hold_until.ensures

@@ -3,4 +3,4 @@ use Rattle.checker.proofs.CheckLaws.{checks_join_of}
 use Rattle.checker.proofs.theorems.checks_join.Goals as goal
 
 pub returns : goal.returns
-returns g c = λ table i result. checks_join_of (of_laws g.met.EF.ExtensionField.lawful_fields) table i result
+returns g c = λ table i result. checks_join_of (of_laws g.met.EF.ExtensionField.lawful_fields) table i g.met.EF.ExtensionField.lawful_fields result

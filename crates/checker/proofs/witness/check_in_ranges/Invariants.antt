@@ -3,8 +3,7 @@ use Rattle.air.specs.Traces.{height_of}
 use Rattle.field.specs.laws.Extension.{of_laws}
 use Rattle.lookup_generation.specs.Ranges.{AreEnds}
 use Rattle.lookup_model.specs.Batches.Instances.{instance_of}
-use Rattle.lookup_model.specs.Batches.Refusals.{HoldsAt}
-use Rattle.lookup_model.specs.Challenges.{table_of}
+use Rattle.lookup_model.specs.Witness.{HoldsOnRow}
 use Rattle.checker.proofs.witness.check_in_ranges.Given as goal
 
 abbrev pub invariant-loop-end : goal.invariant-loop-end
@@ -12,4 +11,4 @@ invariant-loop-end g l =
     let E = of_laws g.met.EF.ExtensionField.lawful_fields in
     let i = instance_of l.instance in
     AreEnds l.first (drop l.end-index l.ends) (height_of i.traces)
-    × ((s : ℕ) → s < l.first → HoldsAt E (table_of l.challenges) i (l.aux, l.terminal) s)
+    × ((s : ℕ) → s < l.first → HoldsOnRow E i.traces i.lookups l.columns.items l.aux l.terminal s)

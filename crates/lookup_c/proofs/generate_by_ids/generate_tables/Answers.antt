@@ -15,7 +15,7 @@ generate_fitting-requires g c =
         omega arith,
         (
           subst₂ GenerateFits (sym read.traces_are) (sym c.deref.ensures.value) read.is.fitting,
-          omega (arith, c.in_ok-challenges.ensures.len, read.is.read.as_many, ap length c.deref.ensures.value, ap length c.deref-2.ensures.value),
+          omega (arith, read.challenges_are.many, read.is.read.as_many, ap length c.deref.ensures.value, ap length c.deref-2.ensures.value),
         ),
       ),
     )
@@ -23,5 +23,5 @@ generate_fitting-requires g c =
 pub returns : goal.returns
 returns g c =
     let read = c.in_ok-air.ensures in
-    generated_by_ids g.K.MontyParameters.positive _ c.args.tables.now c.args.traces.now _ _ _ _ c.generate_fitting.result c.in_ok-air.air.lookups.items _ read.a read.b _ _ _ read.is read.traces_are
-    c.deref.ensures.value (c.deref-2.ensures.value ∙ c.in_ok-challenges.ensures.challenges) read.challenges_are.table_is c.generate_fitting.ensures
+    generated_by_ids g.K.MontyParameters.positive _ c.args.tables.now c.args.traces.now _ _ _ _ c.generate_fitting.result c.in_ok-air.air.lookups.items _ read.a read.b _ _ read.is read.traces_are
+    c.deref.ensures.value (c.deref-2.ensures.value ∙ read.challenges_are.challenges_are) c.generate_fitting.ensures

@@ -9,9 +9,9 @@ returns-in_err-air g c = rw (refused_is c.from_residual.result c.from_residual.e
 pub returns-in-Ok : goal.returns-in-Ok
 returns-in-Ok g c =
     let read = c.in_ok-air.ensures in
-    rows_generated g.K.MontyParameters.positive _ c.args.tables.now c.args.around.now c.args.rows.now _ _ _ _ c.in_ok-air.air.lookups.items _ read.a read.b _ _ _ _ c.in_ok-range.range read.is read.traces_are c.in_ok-range.ensures.1
+    rows_generated g.K.MontyParameters.positive _ c.args.tables.now c.args.around.now c.args.rows.now _ _ _ _ c.in_ok-air.air.lookups.items _ read.a read.b _ _ _ c.in_ok-range.range read.is read.traces_are c.in_ok-range.ensures.1
     c.traces_as_one-traces.ensures
-    c.deref.ensures.value (c.deref-2.ensures.value ∙ c.in_ok-challenges.ensures.challenges) read.challenges_are.table_is c.in_ok-range.ensures.0 c.in-Ok.made c.in-Ok.ensures
+    c.deref.ensures.value (c.deref-2.ensures.value ∙ read.challenges_are.challenges_are) c.in_ok-range.ensures.0 c.in-Ok.made c.in-Ok.ensures
 
 pub returns : goal.returns
 returns g c =
@@ -21,8 +21,8 @@ returns g c =
       | inr other ↦ inr (inr (inr (
         c.in-Err.error,
         other.1,
-        rows_refused g.K.MontyParameters.positive _ c.args.tables.now c.args.around.now c.args.rows.now _ _ _ _ c.in_ok-air.air.lookups.items _ read.a read.b _ _ _ _ c.in_ok-range.range read.is read.traces_are c.in_ok-range.ensures.1
+        rows_refused g.K.MontyParameters.positive _ c.args.tables.now c.args.around.now c.args.rows.now _ _ _ _ c.in_ok-air.air.lookups.items _ read.a read.b _ _ _ c.in_ok-range.range read.is read.traces_are c.in_ok-range.ensures.1
             c.traces_as_one-traces.ensures
-            c.deref.ensures.value (c.deref-2.ensures.value ∙ c.in_ok-challenges.ensures.challenges) read.challenges_are.table_is c.in_ok-range.ensures.0 c.in-Err.error other.0 c.in-Err.ensures,
+            c.deref.ensures.value (c.deref-2.ensures.value ∙ read.challenges_are.challenges_are) c.in_ok-range.ensures.0 c.in-Err.error other.0 c.in-Err.ensures,
       )))
     ]

@@ -19,4 +19,5 @@ returns-clause-answers g c = record {
   ids_are = c.write_ids.ensures ∙ (ap (flat_map id_items) c.ids.ensures ∙ sym (all_ids_are c.in_ok-made.made.ids.items));
   width = c.max_message_width.ensures;
   count = c.num_ids.ensures;
+  have_rows = c.in_ok-made.ensures.2;
 }

@@ -11,7 +11,10 @@ use Rattle.lookup_c.proofs.plan.plan_into_room.Goals as goal
 pub returns-in_err-plan : goal.returns-in_err-plan
 returns-in_err-plan g c = rw (refused_is c.from_residual.result c.from_residual.ensures.1) (inr (inl c.in_err-plan.ensures))
 
+pub returns-in_err-check_rows : goal.returns-in_err-check_rows
+returns-in_err-check_rows g c = rw (refused_is c.from_residual-in_err-check_rows.result c.from_residual-in_err-check_rows.ensures.1) (inr (inr (inl c.in_err-check_rows.ensures)))
+
 pub returns-then-expected-room : goal.returns-then-expected-room
 returns-then-expected-room g c =
     let many = c.in-Some.ensures ∙ (ap (λ is. length (flat_map id_items is)) c.ids.ensures ∙ ap length (sym (all_ids_are c.in_ok-plan.plan.ids.items))) in
-    inr (inr (plan_of c.in_ok-plan.plan, c.in_ok-plan.ensures, λ same. c.if-expected-room.true (many ∙ same), ap (λ n. Length Ids n c.args.room) many))
+    inr (inr (inr (plan_of c.in_ok-plan.plan, c.in_ok-plan.ensures, λ same. c.if-expected-room.true (many ∙ same), ap (λ n. Length Ids n c.args.room) many)))

@@ -11,5 +11,5 @@ returns-in_err-check_enough g c = rw (refused_is c.from_residual-in_err-check_en
 
 pub returns : goal.returns
 returns g c = MatchResult-weaker c.check_air.result c.check_air.ensures
-    (λ _ satisfied. record { fitting = c.in_ok-check_fit.ensures; enough = c.in_ok-check_enough.ensures; satisfied = satisfied })
+    (λ _ satisfied. record { fitting = c.in_ok-check_fit.ensures; enough = c.in_ok-check_enough.ensures; satisfied = satisfied.0; summed = satisfied.1 })
     (λ fault refusal. inr (inr (record { fitting = c.in_ok-check_fit.ensures; enough = c.in_ok-check_enough.ensures; refusal = refusal })))

@@ -1,9 +1,8 @@
-use Rattle.std.proofs.Common.{◌∙◌, ◌<◌, All, ap, arith, inl, inr, length, refl, subst, sym}
-use Rattle.std.specs.Box.{boxed_slice_items}
+use Rattle.std.proofs.Common.{◌∙◌, ap, arith, inl, inr, length, refl, subst}
 use Rattle.lookup_c.specs.Rows.{HasCallRowsAround}
 use Rattle.lookup_c.specs.VerifyRows.{instance_with_ids}
 use Rattle.lookup_c.proofs.AnswerLaws.{refused_is}
-use Rattle.lookup_c.proofs.RowChecks.{read_fits, row_fails, rows_hold, shape_refused}
+use Rattle.lookup_c.proofs.RowChecks.{read_has_columns, row_fails, rows_hold, shape_refused}
 use Rattle.lookup_c.proofs.verify_rows.answer_verify_rows.Goals as goal
 
 pub returns-in_err-air : goal.returns-in_err-air
@@ -27,16 +26,12 @@ returns-in-Err g c =
           c.in_ok-aux.aux c.in_ok-terminal.terminal (record { whole = c.in_ok-aux.ensures.1; cells = c.in_ok-aux.ensures.2; terminal = c.in_ok-terminal.ensures.1 }) c.in_ok-aux.ensures.0 c.in_ok-terminal.ensures.0 c.in-Err.error c.in-Err.ensures,
     ))))))
 
-pub rows_hold_around-requires-clause-fit : goal.rows_hold_around-requires-clause-fit
-rows_hold_around-requires-clause-fit g c =
+pub rows_hold_around-requires-clause-columns : goal.rows_hold_around-requires-clause-columns
+rows_hold_around-requires-clause-columns g c =
     let read = c.in_ok-air.ensures in
-    read_fits g.K.MontyParameters.positive c.args.tables.now c.args.around.now c.args.rows.now _ _ _ _ c.in_ok-air.air.lookups.items read.a read.b _ read.is
-    (subst (HasCallRowsAround c.args.rows.now) read.traces_are c.in_ok-range.ensures.1)
+    read_has_columns g.K.MontyParameters.positive c.args.tables.now c.args.around.now _ _ _ _ c.in_ok-air.air.lookups.items read.a read.b _ _ read.is
     (c.instance_of-instance.ensures ∙ ap (instance_with_ids c.in_ok-air.air.lookups.items c.args.plan.now.ids.now) read.traces_are)
-
-pub rows_hold_around-requires-clause-ids : goal.rows_hold_around-requires-clause-ids
-rows_hold_around-requires-clause-ids g c =
-    subst (All (λ id. id < length (boxed_slice_items c.in_ok-air.air.challenges.bus_prefix))) (sym (ap (λ i. i.ids) c.instance_of-instance.ensures)) c.in_ok-air.ensures.challenges_are.has_prefixes
+    (ap length c.deref.ensures.value ∙ read.challenges_are.many)
 
 pub returns-then-row-range : goal.returns-then-row-range
 returns-then-row-range g c =
@@ -48,7 +43,7 @@ returns-then-row-range g c =
       row_fails g.K.MontyParameters.positive _ c.args.tables.now c.args.around.now c.args.rows.now _ _ _ _ c.args.witness.now c.in_ok-air.air.lookups.items read.a read.b _ read.is
           (subst (HasCallRowsAround c.args.rows.now) read.traces_are c.in_ok-range.ensures.1)
           (c.instance_of-instance.ensures ∙ ap (instance_with_ids c.in_ok-air.air.lookups.items c.args.plan.now.ids.now) read.traces_are)
-          c.in_ok-aux.aux c.in_ok-terminal.terminal (record { whole = c.in_ok-aux.ensures.1; cells = c.in_ok-aux.ensures.2; terminal = c.in_ok-terminal.ensures.1 }) c.in_ok-aux.ensures.0 c.in_ok-terminal.ensures.0 _ c.in_ok-range.range read.challenges_are.table_is c.in_ok-range.ensures.0 c.in_default.ensures c.in_ok-row.row c.in_ok-row.ensures,
+          c.in_ok-aux.aux c.in_ok-terminal.terminal (record { whole = c.in_ok-aux.ensures.1; cells = c.in_ok-aux.ensures.2; terminal = c.in_ok-terminal.ensures.1 }) c.in_ok-aux.ensures.0 c.in_ok-terminal.ensures.0 _ c.in_ok-range.range (c.deref.ensures.value ∙ read.challenges_are.challenges_are) c.in_ok-range.ensures.0 c.in_default.ensures c.in_ok-row.row c.in_ok-row.ensures.holds,
     ))))))
 
 pub returns : goal.returns
@@ -57,5 +52,6 @@ returns g c =
     rows_hold g.K.MontyParameters.positive _ c.args.tables.now c.args.around.now c.args.rows.now _ _ _ _ c.args.witness.now c.in_ok-air.air.lookups.items read.a read.b _ read.is
     (subst (HasCallRowsAround c.args.rows.now) read.traces_are c.in_ok-range.ensures.1)
     (c.instance_of-instance.ensures ∙ ap (instance_with_ids c.in_ok-air.air.lookups.items c.args.plan.now.ids.now) read.traces_are)
-    c.in_ok-aux.aux c.in_ok-terminal.terminal (record { whole = c.in_ok-aux.ensures.1; cells = c.in_ok-aux.ensures.2; terminal = c.in_ok-terminal.ensures.1 }) c.in_ok-aux.ensures.0 c.in_ok-terminal.ensures.0 _ c.in_ok-range.range read.challenges_are.table_is c.in_ok-range.ensures.0 c.in_default.ensures c.in_ok-row.row c.in_ok-row.ensures
+    c.in_ok-aux.aux c.in_ok-terminal.terminal (record { whole = c.in_ok-aux.ensures.1; cells = c.in_ok-aux.ensures.2; terminal = c.in_ok-terminal.ensures.1 }) c.in_ok-aux.ensures.0 c.in_ok-terminal.ensures.0 _ c.in_ok-range.range (c.deref.ensures.value ∙ read.challenges_are.challenges_are) c.in_ok-range.ensures.0 c.in_default.ensures c.in_ok-row.row c.in_ok-row.ensures.holds
+    c.in_ok-row.ensures.adds
     (omega (arith, c.if-row-range.false, ap (λ r. r.end) c.in_ok-range.ensures.0))

@@ -14,6 +14,7 @@ use Rattle.lookup_judge.specs.Found.{IsPlanOf, sized_of}
 use Rattle.lookup_judge.specs.Said.{airs_of}
 use Rattle.lookup_judge.specs.internal.Airs.{over_traced, size_of}
 use Rattle.lookup_judge.specs.internal.Sharing.{AllHaveTuples}
+use Rattle.lookup_judge.proofs.CauseLaws.{kept_refusal}
 use Rattle.lookup_judge.proofs.FittingLaws.{fitting_instances}
 use Rattle.lookup_judge.proofs.JudgeLaws.{balanced_over, planned_over}
 use Rattle.lookup_judge.proofs.TupleLaws.{traced_there}
@@ -81,7 +82,10 @@ returns-in_err-counts g c =
     let planned = subst (λ s. IsPlanOf g.F.PrimeCharacteristicRing.CHARACTERISTIC s plan) (sym (map-map sized_of over_traced airs)) c.in_ok-airs.ensures.planned in
     let traces = ap (map view_of) c.deref-2.ensures.value ∙ (c.in_ok-traces.ensures ∙ (ap (map (λ a. (over_traced a).traces)) c.deref.ensures.value ∙ sym (map-map (λ (t : Traced _). t.traces) over_traced airs))) in
     let p = err_from_is_err_and c.from_residual-in_err-counts.result c.from_residual-in_err-counts.ensures.1 in
-    rw (p.1, p.2) (inr (inr (c.in_ok-airs.ensures.said.0, inr (map over_traced airs, plan, c.in_ok-airs.ensures.said.1, planned, (c.deref-2.result.now, traces, inl (c.in_err-counts.field-0.0, c.in_err-counts.ensures.answer, refl))))))
+    rw (p.1, p.2) (elim (kept_refusal c.in_err-counts.field-0.0) [
+      | inl memory ↦ inl memory
+      | inr kept ↦ inr (inr (c.in_ok-airs.ensures.said.0, inr (map over_traced airs, plan, c.in_ok-airs.ensures.said.1, planned, (c.deref-2.result.now, traces, inl (c.in_err-counts.field-0.0, c.in_err-counts.ensures.answer, kept.0, refl)))))
+    ])
 
 pub returns-in_err-plan : goal.returns-in_err-plan
 returns-in_err-plan g c =

@@ -14,6 +14,6 @@ returns c =
     let numbers : List ℕ = c.read_coefficients.new.numbers in
     let long : length numbers ≡ 2 = c.read_coefficients.ensures.long in
     let writes = c.read_coefficients.ensures.read c.if-not-read_coefficients.false in
-    let first = written_again 18446744069414584321 goldilocks_positive parts numbers writes 0 (omega (arith, long)) c.times_one.result c.times_one.ensures in
-    let second = written_again 18446744069414584321 goldilocks_positive parts numbers writes 1 (omega (arith, long)) c.times_one-2.result c.times_one-2.ensures in
+    let first = written_again 18446744069414584321 goldilocks_positive parts numbers writes 0 (omega (arith, long)) c.from_u64.result c.from_u64.ensures in
+    let second = written_again 18446744069414584321 goldilocks_positive parts numbers writes 1 (omega (arith, long)) c.from_u64-2.result c.from_u64-2.ensures in
     writes ∙ ap (map Some) (two_again numbers long ∙ (λ i. sym first i ∷ sym second i ∷ []) ∙ ap (map (λ c'. c'.value)) (sym c.new.ensures))

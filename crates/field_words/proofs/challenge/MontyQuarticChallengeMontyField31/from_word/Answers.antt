@@ -22,8 +22,8 @@ returns g c =
     let long : length numbers ≡ 4 = c.read_coefficients.ensures.long in
     let writes : WritesNumbers g.row.P c.args.word.now numbers =
     subst (λ (bound : ℕ). WritesNumbers bound c.args.word.now numbers) (bounded g.row.P g.P.fits.fits) (c.read_coefficients.ensures.read c.if-not-read_coefficients.false) in
-    let c0 = written_again g.row.P g.K.MontyParameters.positive parts numbers writes 0 (omega (arith, long)) c.times_one.result c.times_one.ensures in
-    let c1 = written_again g.row.P g.K.MontyParameters.positive parts numbers writes 1 (omega (arith, long)) c.times_one-2.result c.times_one-2.ensures in
-    let c2 = written_again g.row.P g.K.MontyParameters.positive parts numbers writes 2 (omega (arith, long)) c.times_one-3.result c.times_one-3.ensures in
-    let c3 = written_again g.row.P g.K.MontyParameters.positive parts numbers writes 3 (omega (arith, long)) c.times_one-4.result c.times_one-4.ensures in
+    let c0 = written_again g.row.P g.K.MontyParameters.positive parts numbers writes 0 (omega (arith, long)) c.from_u64.result c.from_u64.ensures in
+    let c1 = written_again g.row.P g.K.MontyParameters.positive parts numbers writes 1 (omega (arith, long)) c.from_u64-2.result c.from_u64-2.ensures in
+    let c2 = written_again g.row.P g.K.MontyParameters.positive parts numbers writes 2 (omega (arith, long)) c.from_u64-3.result c.from_u64-3.ensures in
+    let c3 = written_again g.row.P g.K.MontyParameters.positive parts numbers writes 3 (omega (arith, long)) c.from_u64-4.result c.from_u64-4.ensures in
     writes ∙ ap (map Some) (four_again numbers long ∙ (λ i. sym c0 i ∷ sym c1 i ∷ sym c2 i ∷ sym c3 i ∷ []) ∙ ap (map (λ c'. c'.value)) (sym c.new.ensures))
