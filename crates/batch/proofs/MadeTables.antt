@@ -10,9 +10,9 @@ use Rattle.lookup_model.specs.Batches.Witnesses.{AirResult, IsAccepted}
 use Rattle.lookup_model.specs.Challenges.{bus_table, column_challenges, prefix_of_bus}
 use Rattle.lookup_model.specs.declared.error.LookupError.{LookupError}
 use Rattle.lookup_model.proofs.ColumnChallenges.{same_challenges}
-use Rattle.checker.specs.Columns.{ChecksColumns}
-use Rattle.checker.specs.Ranges.{ChecksResult}
-use Rattle.checker.proofs.TablesAlike.{AreAlike, satisfied_alike}
+use Rattle.checker_witness.specs.Columns.{ChecksColumns}
+use Rattle.checker_witness.specs.Ranges.{ChecksResult}
+use Rattle.checker_batches.proofs.TablesAlike.{AreAlike, satisfied_alike}
 use Rattle.batch.specs.Tables.{made_table}
 
 -- the challenges of the columns of an AIR

@@ -29,8 +29,8 @@ use Rattle.lookup.specs.KeptByPacking.{HasIdOfBus, KeepsLawfulFlags, KeepsMessag
 use Rattle.lookup.specs.Lookups.{lookups_of}
 use Rattle.lookup.specs.Packing.{is_additive}
 use Rattle.lookup.specs.declared.lookups.Lookups.{Lookups}
-use Rattle.checker.specs.Packed.{ArePacked}
-use Rattle.checker.specs.Renamed.{IsInjective, renamed}
+use Rattle.checker_batches.specs.Packed.{ArePacked}
+use Rattle.checker_batches.specs.Renamed.{IsInjective, renamed}
 use Rattle.batch.proofs.Greatest.{each_below, least}
 use Rattle.batch.proofs.PairedLookups.{HasBusId, after_has_id, before_has_id, bus_id, passes, passing_renamed, rename, rename_apart}
 use Rattle.batch.proofs.SharedBuses.{Entry}

@@ -10,8 +10,8 @@ use Rattle.std.specs.Map.{lookup}
 use Rattle.lists.proofs.Each.{All-parts}
 use Rattle.lookup_model.specs.Outline.{fields_of}
 use Rattle.lookup.specs.Packing.{is_additive}
-use Rattle.checker.proofs.Members.{in_image, lookup_found}
-use Rattle.checker.specs.Renamed.{IsInjective}
+use Rattle.checker_batches.proofs.Members.{in_image, lookup_found}
+use Rattle.checker_batches.specs.Renamed.{IsInjective}
 use Rattle.batch.proofs.Members.{from_image, in_part, members, same_images}
 use Rattle.batch.proofs.Renaming.{Agree, AllAgree, rename_by, renames, renames_apart}
 use Rattle.batch.proofs.SharedBuses.{Entry, IsByBus, same_id, same_label, share, shared}

@@ -6,7 +6,7 @@ use Rattle.std.proofs.lemmas.List.Elements.{Contains-get_or, recursion_from_All}
 use Rattle.std.proofs.lemmas.Map.Views.{Contains-from_lookup, exact_unsigned_eq}
 use Rattle.std.specs.List.{Contains}
 use Rattle.std.specs.Map.{lookup}
-use Rattle.checker.proofs.Members.{lookup_found}
+use Rattle.checker_batches.proofs.Members.{lookup_found}
 
 -- the renaming, to the new number beside the first pair that has the old one: a number that no pair has goes past the first m
 abbrev pub rename_by : List (ℕ × ℕ) → ℕ → ℕ → ℕ

@@ -3,7 +3,7 @@ use Rattle.std.specs.Prelude.{◌≡◌, ◌⊎◌, Bool, List}
 use Rattle.std.specs.List.{AllZip}
 use Rattle.field.specs.Extension.{Extension}
 use Rattle.field.specs.Ring.{Ring}
-use Rattle.checker.specs.Packed.{KeepsCounts}
+use Rattle.checker_batches.specs.Packed.{KeepsCounts}
 use Rattle.lookup.specs.KeptByPacking.{KeepsSent}
 use Rattle.lookup.specs.Lookups.{lookups_of}
 use Rattle.lookup.specs.declared.lookups.Lookups.{Lookups}

@@ -12,7 +12,8 @@ use Rattle.lookup_model.specs.Challenges.{ChallengeTable}
 use Rattle.lookup_model.specs.declared.error.LookupError.{LookupError}
 use Rattle.lookup_model.specs.declared.fault.BatchFault.{BatchFault}
 use Rattle.lookup_model.specs.declared.witness.Witness.{Witness}
-use Rattle.checker.specs.Answers.{GivesAcceptedIfBalanced, GivesSatisfied, IsPlainWitness, PassesOnlyPlain}
+use Rattle.checker_witness.specs.Answers.{PassesOnlyPlain}
+use Rattle.checker_batches.specs.Answers.{GivesAcceptedIfBalanced, GivesSatisfied, IsPlainWitness}
 use Rattle.batch.specs.Plans.{FitPlan, IsMisfit, Plan, plan_batch, plan_with}
 use Rattle.batch.specs.Refusals.{of_fault}
 use Rattle.batch.specs.Tables.{made_table}

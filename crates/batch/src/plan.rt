@@ -59,7 +59,7 @@ impl<F: Field> BatchPlan<F> {
     ghost use Rattle.batch.specs.Heights.{BoundsAllTraces, CountsHeights, most_planned};
     ghost use Rattle.batch.specs.PlanBatches.{HasLawfulIds, InstancesFitPlan};
     ghost use Rattle.batch.specs.Plans.{FitPlan, IsMisfit, plan_batch};
-    ghost use Rattle.checker.specs.Answers.{ChecksWitness};
+    ghost use Rattle.checker_witness.specs.Answers.{ChecksWitness};
     ghost use Rattle.lookup_model.specs.Batches.Witnesses.{HasOneOfEach, results_of};
     ghost use Rattle.batch.specs.internal.PlanBatches.{MakesPlanBatch};
     ghost use Rattle.batch.specs.Runs.{PassIsCounted, Proves, ProvesBalanced, ProvesRegular, ProvesSatisfied, RefusesOnlyUnaccepted, Verifies, VerifiesOnlyPlain, plan_of, run_of};

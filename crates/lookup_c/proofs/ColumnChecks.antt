@@ -5,7 +5,7 @@ use Rattle.field.specs.Residue.{Residue}
 use Rattle.field.specs.Extension.{Extension}
 use Rattle.field.specs.Quartic.{Quartic}
 use Rattle.air.specs.Traces.{AirTraces}
-use Rattle.checker.specs.Columns.{IsColumnsRefusal}
+use Rattle.checker_witness.specs.Columns.{IsColumnsRefusal}
 use Rattle.lookup_model.specs.Batches.Witnesses.{AirResult}
 use Rattle.lookup_model.specs.Witness.{IsSatisfied, TerminalIsSum}
 use Rattle.lookup_model.specs.declared.error.LookupError.{LookupError}

@@ -2,7 +2,7 @@
 use Rattle.std.proofs.Common.{◌<◌, ◌≡◌, ◌∙◌, ◌*◌, ◌+◌, ◌∷◌, [], ℕ, List, Option, ap, arith, length, map, refl, subst₂, sym}
 use Rattle.field.specs.Residue.{Residue}
 use Rattle.air.specs.Traces.{AirTraces, height_of}
-use Rattle.checker.specs.Ranges.{RowsHoldUntil}
+use Rattle.checker_witness.specs.Ranges.{RowsHoldUntil}
 use Rattle.field.specs.Extension.{Extension}
 use Rattle.field.specs.Quartic.{Quartic}
 use Rattle.matrix.proofs.Shapes.{shaped_by_rows}
@@ -13,8 +13,8 @@ use Rattle.lookup_model.specs.Outline.{outline_of}
 use Rattle.lookup_model.specs.Witness.{HasShape, auxiliary_height, auxiliary_width, has_terminal}
 use Rattle.lookup_model.specs.declared.types.Lookup.{Lookup}
 use Rattle.lookup_model.specs.declared.types.LookupTerminal.{LookupTerminal}
-use Rattle.lookup_ranges.specs.Around.{IsMatrixAround}
-use Rattle.lookup_ranges.specs.declared.range.RowRange.{RowRange}
+use Rattle.checker_witness.specs.Around.{IsMatrixAround}
+use Rattle.checker_witness.specs.declared.range.RowRange.{RowRange}
 use Rattle.lookup_tables.specs.Numbers.{quartic_of_numbers}
 use Rattle.lookup_tables.specs.declared.tables.Tables.{Tables}
 use Rattle.lookup_tables.specs.declared.traces.Traces.{Traces}

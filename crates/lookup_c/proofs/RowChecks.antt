@@ -2,8 +2,8 @@
 use Rattle.std.proofs.Common.{◌<◌, ◌≡◌, ◌≤◌, ◌*◌, ℕ, List, Option, length, arith, subst, sym}
 use Rattle.field.specs.Residue.{Residue}
 use Rattle.air.specs.Traces.{AirTraces}
-use Rattle.checker.specs.Columns.{ColumnsHoldUntil, HasColumns}
-use Rattle.checker.specs.Ranges.{RangeAddsUp, RowsHoldUntil}
+use Rattle.checker_witness.specs.Columns.{ColumnsHoldUntil, HasColumns}
+use Rattle.checker_witness.specs.Ranges.{RangeAddsUp, RowsHoldUntil}
 use Rattle.field.specs.Extension.{Extension}
 use Rattle.field.specs.Quartic.{Quartic}
 use Rattle.matrix.specs.Matrix.{Matrix}
@@ -13,8 +13,8 @@ use Rattle.lookup_model.specs.Challenges.{column_challenges}
 use Rattle.lookup_model.specs.declared.error.LookupError.{LookupError}
 use Rattle.lookup_model.specs.declared.types.Lookup.{Lookup}
 use Rattle.lookup_model.specs.declared.types.LookupTerminal.{LookupTerminal}
-use Rattle.lookup_ranges.specs.Around.{AreAround, IsMatrixAround, over_traces}
-use Rattle.lookup_ranges.specs.declared.range.RowRange.{RowRange}
+use Rattle.checker_witness.specs.Around.{AreAround, IsMatrixAround, over_traces}
+use Rattle.checker_witness.specs.declared.range.RowRange.{RowRange}
 use Rattle.lookup_tables.specs.declared.tables.Tables.{Tables}
 use Rattle.lookup_tables.specs.declared.traces.Traces.{Traces}
 use Rattle.lookup_c.specs.Inputs.{decoded_traces}

@@ -10,8 +10,8 @@ use Rattle.lookup_model.specs.Challenges.{column_challenges}
 use Rattle.lookup_model.specs.declared.error.LookupError.{LookupError}
 use Rattle.lookup_model.specs.declared.error.LookupError.TheVariants as error
 use Rattle.lookup_model.specs.declared.types.Lookup.{Lookup}
-use Rattle.lookup_ranges.specs.Around.{AreAround}
-use Rattle.lookup_ranges.specs.declared.range.RowRange.{RowRange}
+use Rattle.checker_witness.specs.Around.{AreAround}
+use Rattle.checker_witness.specs.declared.range.RowRange.{RowRange}
 use Rattle.lookup_tables.specs.declared.tables.Tables.{Tables}
 use Rattle.lookup_tables.specs.declared.traces.Traces.{Traces}
 use Rattle.lookup_c.specs.GenerateRows.{CallGeneratesRows, IsFirstGenerateRowsFault, OfGenerateRows}

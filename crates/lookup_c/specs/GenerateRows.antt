@@ -11,7 +11,7 @@ use Rattle.lookup_model.specs.Denominators.{key_denominator}
 use Rattle.lookup_model.specs.Trace.{sent_rows}
 use Rattle.lookup_model.specs.declared.error.LookupError.{LookupError}
 use Rattle.lookup_model.specs.declared.types.Lookup.{Lookup}
-use Rattle.lookup_ranges.specs.Around.{AreAround}
+use Rattle.checker_witness.specs.Around.{AreAround}
 use Rattle.lookup_tables.specs.Numbers.{numbers_of}
 use Rattle.lookup_tables.specs.declared.tables.Tables.{Tables}
 use Rattle.lookup_tables.specs.declared.traces.Traces.{Traces}

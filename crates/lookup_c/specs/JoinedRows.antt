@@ -2,7 +2,7 @@
 use Rattle.std.specs.Prelude.{◌<◌, ◌≡◌, ◌≤◌, ◌++◌, ◌∷◌, [], ℕ, List, Ok}
 use Rattle.field.specs.Residue.{Residue}
 use Rattle.air.specs.Traces.{AirTraces, height_of}
-use Rattle.checker.specs.Ranges.{RowsHoldUntil}
+use Rattle.checker_witness.specs.Ranges.{RowsHoldUntil}
 use Rattle.field.specs.Extension.{Extension}
 use Rattle.field.specs.Quartic.{Quartic}
 use Rattle.matrix.specs.Matrix.{Matrix}
@@ -11,7 +11,7 @@ use Rattle.lookup_model.specs.Batches.Refusals.{HasShapeAt}
 use Rattle.lookup_model.specs.Challenges.{column_challenges}
 use Rattle.lookup_model.specs.Witness.{auxiliary_width}
 use Rattle.lookup_model.specs.declared.types.Lookup.{Lookup}
-use Rattle.lookup_ranges.specs.Around.{AreAround, IsMatrixAround}
+use Rattle.checker_witness.specs.Around.{AreAround, IsMatrixAround}
 use Rattle.lookup_tables.specs.Numbers.{numbers_of, quartic_of_numbers}
 use Rattle.lookup_tables.specs.Tables.{TablesEncode}
 use Rattle.lookup_tables.specs.declared.tables.Tables.{Tables}

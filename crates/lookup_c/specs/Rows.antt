@@ -1,8 +1,8 @@
 -- Ranges of the rows of an AIR, and the traces around them.
 use Rattle.std.specs.Prelude.{◌≡◌, ◌≢◌, ◌⊎◌}
 use Rattle.air.specs.Traces.{AirTraces, height_of}
-use Rattle.lookup_ranges.specs.Around.{IsRange, rows_around}
-use Rattle.lookup_ranges.specs.declared.range.RowRange.{RowRange}
+use Rattle.checker_witness.specs.Around.{IsRange, rows_around}
+use Rattle.checker_witness.specs.declared.range.RowRange.{RowRange}
 use Rattle.lookup_c.specs.declared.codes.Part.TheVariants.{Rows as OfRows}
 use Rattle.lookup_c.specs.declared.fault.Fault.{Fault}
 use Rattle.lookup_c.specs.declared.fault.Fault.TheVariants.{Length, Rows as NoRange}

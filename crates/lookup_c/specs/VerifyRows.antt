@@ -3,7 +3,7 @@ use Rattle.std.specs.Prelude.{◌≡◌, ◌⊎◌, ◌<◌, ℕ, List, length}
 use Rattle.field.specs.Residue.{Residue}
 use Rattle.air.specs.Traces.{AirTraces, height_of}
 use Rattle.batch.specs.declared.error.BatchError.TheVariants.{Lookup as OfLookup}
-use Rattle.checker.specs.Ranges.{RowsHoldUntil}
+use Rattle.checker_witness.specs.Ranges.{RowsHoldUntil}
 use Rattle.field.specs.Extension.{Extension}
 use Rattle.field.specs.Quartic.{Quartic}
 use Rattle.matrix.specs.Matrix.{Matrix}
@@ -15,7 +15,7 @@ use Rattle.lookup_model.specs.Challenges.{ChallengeTable}
 use Rattle.lookup_model.specs.declared.error.LookupError.{LookupError}
 use Rattle.lookup_model.specs.declared.error.LookupError.TheVariants.{ConstraintFailed}
 use Rattle.lookup_model.specs.declared.types.Lookup.{Lookup}
-use Rattle.lookup_ranges.specs.Around.{AreAround, IsMatrixAround}
+use Rattle.checker_witness.specs.Around.{AreAround, IsMatrixAround}
 use Rattle.lookup_tables.specs.declared.tables.Tables.{Tables}
 use Rattle.lookup_tables.specs.declared.traces.Traces.{Traces}
 use Rattle.lookup_c.specs.CallAnswers.{CallAnswers}

@@ -12,10 +12,10 @@ use crate::plan::PlanSizes;
 use crate::planned_air::{InPlan, read_air};
 use crate::refusal::{Refusal, accept, refuse};
 use crate::rows::{Rows, range_of};
+use checker::generate_around;
 use field::{
     BabyBear, BabyBear4, BabyBearParameters, MontyField31, MontyQuartic, Over, QuarticParameters,
 };
-use lookup_ranges::generate_around;
 use lookup_tables::{Tables, Traces, element_numbers};
 use matrix::RowMajorMatrix;
 use std::alloc::Global;

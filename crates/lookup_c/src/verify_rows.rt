@@ -13,12 +13,11 @@ use crate::refusal::{Refusal, accept, refuse};
 use crate::rows::{Rows, range_of};
 use crate::witness::{AirWitness, read_auxiliary, read_terminal};
 use batch::BatchError;
-use checker::{BatchInstance, check_shape};
+use checker::{BatchInstance, check_shape, rows_hold_around};
 use field::{
     BabyBear, BabyBear4, BabyBearParameters, MontyField31, MontyQuartic, Over, QuarticParameters,
 };
 use lookup::LookupError;
-use lookup_ranges::rows_hold_around;
 use lookup_tables::{Tables, Traces};
 use std::alloc::Global;
 

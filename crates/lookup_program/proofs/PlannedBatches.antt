@@ -16,7 +16,7 @@ use Rattle.field.specs.Extension.{Extension}
 use Rattle.lookup.specs.Guards.{weighted_height_sum}
 use Rattle.lookup.specs.Lookups.{lookups_of}
 use Rattle.lookup.specs.declared.lookups.Lookups.{Lookups}
-use Rattle.checker.specs.Answers.{IsPlainWitness}
+use Rattle.checker_batches.specs.Answers.{IsPlainWitness}
 use Rattle.batch.proofs.PlanCalls.{unfit_traces}
 use Rattle.batch.specs.Checks.{IsPlanRefusal}
 use Rattle.batch.specs.PlanFacts.{AreNumbered, IsPlan, message_width}

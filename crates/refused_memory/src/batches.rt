@@ -1,6 +1,6 @@
 //! Calls over batches.
 ghost use Rattle.std.specs.Prelude.{◌↔◌, ◌<◌, All, IsTrue};
-ghost use Rattle.checker.specs.Answers.{AreReady};
+ghost use Rattle.checker_witness.specs.Answers.{AreReady};
 
 use crate::inputs::{BALANCED, LOOKUPS, ON_A_BUS, UNBALANCED, lookups_of, table, trace};
 use crate::show::{Out, input, show};

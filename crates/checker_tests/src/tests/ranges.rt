@@ -4,13 +4,12 @@ use air::{
     AirLayout, BaseEntry, BaseLeaf, Expression, SymbolicExpression, SymbolicVariable, Traces,
 };
 use checker::{
-    BatchInstance, check_in_ranges, check_result, check_shape, checks_join, instance_fits,
-    results_join, rows_hold_until,
+    BatchInstance, RowRange, check_in_ranges, check_result, check_shape, checks_join,
+    generate_around, instance_fits, results_join, rows_hold_around, rows_hold_until,
 };
 use field::{ExtensionField, F7, Field, PrimeCharacteristicRing};
 use lookup::{Challenges, Kind, Lookup, LookupError, LookupTerminal, fits};
 use lookup_generation::shift;
-use lookup_ranges::{RowRange, generate_around, rows_hold_around};
 use matrix::RowMajorMatrix;
 use std::alloc::Global;
 use std::process::Abort;

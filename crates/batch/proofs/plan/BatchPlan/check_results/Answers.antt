@@ -7,7 +7,7 @@ use Rattle.field.specs.laws.Extension.{of_laws}
 use Rattle.lookup_model.specs.Batches.Instances.{IsFitting, instance_of}
 use Rattle.lookup_model.specs.Batches.Witnesses.{AirResult, IsSatisfiedAt, results_of}
 use Rattle.lookup_model.specs.declared.types.LookupTerminal.{LookupTerminal}
-use Rattle.checker.specs.Results.{ChecksSum}
+use Rattle.checker_witness.specs.Results.{ChecksSum}
 use Rattle.batch.proofs.MadeTables.{checked_over}
 use Rattle.batch.proofs.PlanCalls.{batch_below, batch_fits, instance_there, length_of_batch}
 use Rattle.batch.specs.Plans.{plan_batch}

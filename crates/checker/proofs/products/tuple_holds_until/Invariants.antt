@@ -1,7 +1,0 @@
-use Rattle.std.proofs.Common.{ℕ, ◌<◌, ◌≤◌}
-use Rattle.checker.specs.internal.Products.{HasMultiplicity}
-use Rattle.checker.proofs.products.tuple_holds_until.Given as goal
-
-abbrev pub invariant-loop-row : goal.invariant-loop-row
-invariant-loop-row g l =
-    (s : ℕ) → l.fn.first ≤ s → s < l.row → HasMultiplicity g.F.PrimeCharacteristicRing.ring g.EF.PrimeCharacteristicRing.ring g.EF.ExtensionDomain.embed l.branch l.aux l.column l.fn.first s

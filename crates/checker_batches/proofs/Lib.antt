@@ -1,0 +1,10 @@
+pub mod CountLaws
+pub mod IdLaws
+pub mod Members
+pub mod PackedBatches
+pub mod RenamedBatches
+pub mod ResultLaws
+pub mod SameIdLaws
+pub mod SumSteps
+pub mod SumWalk
+pub mod TablesAlike

@@ -1,0 +1,6 @@
+pub mod Answers
+pub mod Collected
+pub mod Packed
+pub mod Renamed
+pub mod Soundness
+pub mod internal

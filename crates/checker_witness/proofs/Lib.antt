@@ -1,0 +1,17 @@
+pub mod AccumulatorLaws
+pub mod CheckLaws
+pub mod CheckedInputs
+pub mod FewRowLaws
+pub mod FractionLaws
+pub mod HoldsLaws
+pub mod InstanceLaws
+pub mod ProductLaws
+pub mod QuotientSteps
+pub mod Renumbering
+pub mod RowsAround
+pub mod SelectionLaws
+pub mod UntilLaws
+pub mod WholeAnswers
+pub mod WholeChecks
+pub mod WindowsAround
+pub mod WitnessLaws

@@ -1,0 +1,6 @@
+pub mod Answers
+pub mod Around
+pub mod Columns
+pub mod Ranges
+pub mod Results
+pub mod internal
