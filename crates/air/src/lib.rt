@@ -16,4 +16,4 @@ pub use expressions::{
     SymbolicVariableExt, WholeNumbers, copy_expressions, resolve_over,
 };
 pub use recording::{ConstraintLayout, SymbolicAirBuilder};
-pub use traces::Traces;
+pub use traces::{Traces, next_row};

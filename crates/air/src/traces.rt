@@ -1,5 +1,5 @@
 //! The traces of an AIR.
-ghost use Rattle.std.specs.Prelude.{◌≡◌};
+ghost use Rattle.std.specs.Prelude.{◌≡◌, ◌<◌, ◌+◌, ◌%◌};
 ghost use Rattle.std.specs.Option.{ForSome, option_copied};
 ghost use Rattle.matrix.specs.Matrix.{height};
 
@@ -16,4 +16,13 @@ pub struct Traces<'a, F> {
     pub public_values: &'a [F],
     // Both traces, if there are two, are equally high.
     pub ghost heights: { ForSome (option_copied preprocessed) (λ m. height m ≡ height main.now) },
+}
+
+/// The row after a row of a trace that has this many rows; the first one comes after the last.
+pub fn next_row(row: usize, num_rows: usize) -> usize
+    requires { row < num_rows }
+    ensures next { result ≡ (row + 1) % num_rows }
+    ensures exists { result < num_rows }
+{
+    if row + 1 == num_rows { 0 } else { row + 1 }
 }

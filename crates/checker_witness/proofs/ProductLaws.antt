@@ -7,7 +7,7 @@ use Rattle.std.specs.Option.{is_some}
 use Rattle.field.specs.Extension.{Extension}
 use Rattle.field.specs.Ring.{IsCommutativeRing}
 use Rattle.lookup_columns.specs.ChunkColumns.{IsStored}
-use Rattle.lookup_columns.specs.declared.branches.BranchColumns.{BranchColumns}
+use Rattle.lookup_columns.specs.declared.columns.BranchColumns.{BranchColumns}
 use Rattle.lookup_model.specs.Constraints.{fraction_left}
 use Rattle.lookup_model.specs.Message.{Key, Message}
 use Rattle.checker_witness.proofs.FractionLaws.{fraction_decides}

@@ -2,9 +2,8 @@
 ghost use Rattle.std.specs.Prelude.{◌≡◌, ◌<◌, ◌≤◌, length, slice_index_or};
 ghost use Rattle.expressions.specs.Meaning.{row_at};
 
-use air::{BaseEntry, BaseLeaf, SymbolicExpression, SymbolicVariable, Traces};
+use air::{BaseEntry, BaseLeaf, SymbolicExpression, SymbolicVariable, Traces, next_row};
 use field::{Field, PrimeCharacteristicRing};
-use lookup_columns::next_row;
 use matrix::{RowWindow, WindowAccess};
 
 /// One row of the traces of an AIR and the next one, as the expressions of its lookups read them.

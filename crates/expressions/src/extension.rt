@@ -1,10 +1,12 @@
 //! Builders over an extension of their field, and over the permutation trace of an argument.
-ghost use Rattle.std.specs.Prelude.{◌≡◌, ℕ, ◌≤◌, ◌↔◌, IfOk, IfErr, MatchResult, Some, slice_get};
+ghost use Rattle.std.specs.Prelude.{◌≡◌, ◌⊎◌, ℕ, ◌≤◌, ◌↔◌, IfOk, IfErr, MatchResult, Some, slice_get};
 ghost use Rattle.expressions.specs.Builder.{MeansRow};
+ghost use Rattle.expressions.specs.Filter.{IsProduct};
 ghost use Rattle.expressions.specs.Window.{ExtWindow, Window};
 ghost use Rattle.expressions.specs.declared.error.AirError.{AirError};
+ghost use Rattle.expressions.specs.declared.error.AirError.TheVariants.{Memory};
 
-use crate::builder::AirBuilder;
+use crate::builder::{AirBuilder, FilteredAirBuilder};
 use crate::error::AirError;
 use crate::expression::Expression;
 use field::ExtensionField;
@@ -72,6 +74,67 @@ pub trait ExtensionBuilder: AirBuilder {
 
     ghost ext_keeps_base: { (b : Self) (x : Self.ExprEF) (c : Self) (w : Window Self.F)
         → accepts_ext b x c → Self.stands_for b w ↔ Self.stands_for c w };
+}
+
+impl<'a, AB: ExtensionBuilder> ExtensionBuilder for FilteredAirBuilder<'a, AB> {
+    type EF = AB::EF;
+
+    type ExprEF = AB::ExprEF;
+
+    type VarEF = AB::VarEF;
+
+    ghost stands_for_ext = { λ b. AB.stands_for_ext b.inner.now };
+
+    ghost seen_ext = { AB.seen_ext };
+
+    ghost variable_ext = { AB.variable_ext };
+
+    ghost accepts_ext = { λ b x c. (c.inner.ghost_name ≡ b.inner.ghost_name)
+        × (c.condition ≡ b.condition)
+        × ((product : AB.ExprEF)
+        × IsProduct AB.EF.ring.mul (λ w. AB.ExprEF.value product (AB.seen_ext w))
+        (λ w. AB.EF.embed (AB.Expr.value b.condition (AB.seen w.base)))
+        (λ w. AB.ExprEF.value x (AB.seen_ext w))
+        (AB.ExprEF.degree product) (AB.Expr.degree b.condition) (AB.ExprEF.degree x)
+        ((factor : AB.ExprEF) × AB.ExprEF.is_product factor x product)
+        × AB.accepts_ext b.inner.now product c.inner.now) };
+
+    ghost refuses_ext = { λ b x e c. (c.inner.ghost_name ≡ b.inner.ghost_name)
+        × (c.condition ≡ b.condition)
+        × (((e ≡ Memory) × (c.inner.now ≡ b.inner.now))
+        ⊎ ((product : AB.ExprEF)
+        × IsProduct AB.EF.ring.mul (λ w. AB.ExprEF.value product (AB.seen_ext w))
+        (λ w. AB.EF.embed (AB.Expr.value b.condition (AB.seen w.base)))
+        (λ w. AB.ExprEF.value x (AB.seen_ext w))
+        (AB.ExprEF.degree product) (AB.Expr.degree b.condition) (AB.ExprEF.degree x)
+        ((factor : AB.ExprEF) × AB.ExprEF.is_product factor x product)
+        × AB.refuses_ext b.inner.now product e c.inner.now)) };
+
+    ghost base_window = { λ b. AB.base_window b.inner.now };
+
+    ghost variable_ext_converts = { AB.variable_ext_converts };
+
+    ghost variable_ext_degree = { AB.variable_ext_degree };
+
+    ghost keeps_ext = { λ b x c w h. AB.keeps_ext b.inner.now h.2.0 c.inner.now w h.2.2 };
+
+    ghost keeps_ext_layout = { λ b x c h. AB.keeps_ext_layout b.inner.now h.2.0 c.inner.now h.2.2 };
+
+    ghost keeps_ext_pushed = { λ b x c h. AB.keeps_ext_pushed b.inner.now h.2.0 c.inner.now h.2.2 };
+
+    ghost base_keeps_ext = { λ b x c w h. AB.base_keeps_ext b.inner.now h.2.0 c.inner.now w h.2.2 };
+
+    ghost ext_keeps_base = { λ b x c w h. AB.ext_keeps_base b.inner.now h.2.0 c.inner.now w h.2.2 };
+
+    fn lift(x: AB::Expr) -> AB::ExprEF {
+        AB::lift(x)
+    }
+
+    fn assert_zero_ext(&mut self, alloc: Global, x: AB::ExprEF) -> Result<(), AirError> {
+        let condition = self.condition.copy(alloc)?;
+        let product = AB::lift(condition).mul(alloc, x)?;
+        self.inner.assert_zero_ext(alloc, product)
+    }
 }
 
 /// A builder that also provides the permutation trace of an argument, its challenges and its

@@ -9,8 +9,8 @@ ghost use Rattle.lookup.specs.Lookups.{lookups_of};
 ghost use Rattle.lookup.specs.NamedWidths.{AgreeOnWidths, IsFirstWidthMismatch, IsWidthMismatch, all_named_widths, named_widths, seen_widths};
 ghost use Rattle.lookup.specs.TupleWidths.{AreUnevenWidths, HasOtherWidth, IsTupleWidths};
 
+use crate::buses::by_bus;
 use crate::lookups::Lookups;
-use crate::packing::by_bus;
 use air::SymbolicExpression;
 use field::Field;
 use indexmap::IndexMap;

@@ -7,8 +7,8 @@
 #![tactic(auto)]
 
 mod bus_widths;
+mod buses;
 pub mod debug_util;
-mod evaluation;
 mod extraction;
 mod guards;
 pub mod indexed;

@@ -6,7 +6,6 @@
 //! `messages_keep_terminals` says that packing changes no terminal. `specs/` says what a greedy cut is,
 //! that no consecutive split has fewer columns, and that packing keeps every message.
 
-mod buses;
 mod degrees;
 mod filling;
 mod greedy;
@@ -14,6 +13,6 @@ mod terminals;
 mod trials;
 
 pub use crate::bus_widths::assert_uniform_tuple_width;
-pub use buses::by_bus;
+pub use crate::buses::by_bus;
 pub use greedy::{may_be_joined, pack_by_degree, pack_lookups};
 pub use terminals::messages_keep_terminals;

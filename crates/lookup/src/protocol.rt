@@ -13,7 +13,6 @@ ghost use Rattle.lookup_model.specs.Terminals.{terminal_sum};
 ghost use Rattle.lookup_model.specs.Generation.{AnswersGeneration};
 ghost use Rattle.matrix.specs.Matrix.{height};
 
-use crate::evaluation::{eval_fractions, eval_terminal};
 use air::{Air, AirBuilder, AirError, BuilderView, ExtensionBuilder, PermutationAirBuilder};
 use field::{ExtensionField, Field, Over};
 use lookup_model::{Lookup, LookupError, LookupTerminal};
@@ -182,4 +181,43 @@ pub trait LookupProtocol: Sized {
             (λ _. terminal_sum EF.ring terminals.now ≡ EF.ring.zero)
             (λ e. (e ≡ LookupError.TerminalSumNonZero)
             × (terminal_sum EF.ring terminals.now ≢ EF.ring.zero)) };
+}
+
+/// Asserts the equation of each lookup, in order.
+fn eval_fractions<P: LookupProtocol, AB: PermutationAirBuilder>(
+    protocol: &P,
+    alloc: Global,
+    builder: &mut AB,
+    lookups: &[Lookup<AB::F>],
+) -> Result<(), AirError>
+    requires fit { LookupsFit (AB.layout builder.old) lookups.now }
+    requires challenges { 2 * length lookups.now
+        ≤ (AB.layout builder.old).num_permutation_challenges }
+    requires cells { length lookups.now < (AB.layout builder.old).permutation_width }
+    ensures { let E = ⟦<AB::EF as Over<AB::F>>⟧.fields in
+        EvaluatesOn ⟦<AB as BuilderView>⟧ builder.old (map (fraction_constraint E) lookups.now)
+        result builder.new }
+{
+    for lookup in lookups {
+        protocol.eval_fraction(alloc, builder, lookup)?;
+    }
+    Ok(())
+}
+
+/// Asserts the accumulator's equations. The terminal is the first permutation value.
+fn eval_terminal<P: LookupProtocol, AB: PermutationAirBuilder>(
+    protocol: &P,
+    alloc: Global,
+    builder: &mut AB,
+    lookups: &[Lookup<AB::F>],
+) -> Result<(), AirError>
+    requires cells { All (λ lookup. lookup.column + 1
+        < (AB.layout builder.old).permutation_width) lookups.now }
+    requires terminal { 0 < (AB.layout builder.old).num_permutation_values }
+    ensures { let E = ⟦<AB::EF as Over<AB::F>>⟧.fields in
+        EvaluatesOn ⟦<AB as BuilderView>⟧ builder.old
+        (accumulator_constraints E lookups.now (terminal_at E) (λ t. 0)) result builder.new }
+{
+    let terminal = terminal(&*builder);
+    protocol.eval_accumulator(alloc, builder, lookups, terminal)
 }

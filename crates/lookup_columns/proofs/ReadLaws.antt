@@ -5,7 +5,7 @@ use Rattle.lists.proofs.Items.{read_is}
 use Rattle.field.specs.Ring.{Ring}
 use Rattle.lookup_columns.proofs.ZipLaws.{Beside, beside}
 use Rattle.lookup_columns.specs.ChunkColumns.{HasFlag, StoreSelected, IsStored, IsStoredIfSet, IsStoredSelected}
-use Rattle.lookup_columns.specs.declared.branches.BranchColumns.{BranchColumns}
+use Rattle.lookup_columns.specs.declared.columns.BranchColumns.{BranchColumns}
 use Rattle.lookup_model.specs.Message.{Key, Message}
 
 module _ {F K : Type 0} (R : Ring F) (denominator : Key F → K) (index : ℕ) (columns : List (BranchColumns F K)) (flags : List F) (messages : List (Message F)) (selected : StoreSelected R denominator index columns flags messages) (i : ℕ) (c : BranchColumns F K) (lt : i < length columns) (is : c ≡ get_or columns i c) where

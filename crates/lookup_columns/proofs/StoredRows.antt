@@ -11,7 +11,7 @@ use Rattle.expressions.specs.Window.{Window}
 use Rattle.field.specs.Ring.{Ring}
 use Rattle.lookup_columns.proofs.ChunkColumnLaws.{zip_weaker}
 use Rattle.lookup_columns.specs.ChunkColumns.{AreColumns, AreLookupColumns, StoreLookup}
-use Rattle.lookup_columns.specs.declared.branches.BranchColumns.{BranchColumns}
+use Rattle.lookup_columns.specs.declared.columns.BranchColumns.{BranchColumns}
 use Rattle.lookup_columns.specs.internal.StoredRows.{StoreAllOnRows, StoreOnRows}
 use Rattle.lookup_model.proofs.Lookups.SentRows.{column_is}
 use Rattle.lookup_model.specs.Message.{Message}

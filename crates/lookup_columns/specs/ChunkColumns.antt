@@ -10,7 +10,7 @@ use Rattle.lookup_model.specs.Denominators.{column_denominator_over}
 use Rattle.lookup_model.specs.Message.{Key, Message}
 use Rattle.lookup_model.specs.Sent.{branches_at, values}
 use Rattle.lookup_model.specs.declared.types.Lookup.{Lookup}
-use Rattle.lookup_columns.specs.declared.branches.BranchColumns.{BranchColumns}
+use Rattle.lookup_columns.specs.declared.columns.BranchColumns.{BranchColumns}
 
 module _ {F K : Type 0} where
   -- At this index, a column holds the multiplicity and the denominator of this message.

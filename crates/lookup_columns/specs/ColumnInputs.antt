@@ -2,7 +2,7 @@
 use Rattle.std.specs.Prelude.{◌<◌, ◌+◌, ◌*◌, All, length}
 use Rattle.air.specs.Traces.{height_of, layout_of, traces_of}
 use Rattle.lookup_columns.specs.LookupSteps.{AreLookupSteps}
-use Rattle.lookup_columns.specs.declared.branches.ColumnInputs.{ColumnInputs}
+use Rattle.lookup_columns.specs.declared.columns.ColumnInputs.{ColumnInputs}
 use Rattle.lookup_columns.specs.declared.lookup_steps.LookupSteps.{LookupSteps}
 use Rattle.lookup_model.specs.Records.{HasEqualLengths, IsWithin}
 use Rattle.lookup_model.specs.declared.types.Lookup.{Lookup}

@@ -10,39 +10,15 @@ ghost use Rattle.lookup_model.specs.Records.{AllFit};
 ghost use Rattle.lookup_model.specs.Sent.{branches_at, values};
 
 use crate::column::column_of;
+use crate::columns::{BranchColumns, ColumnInputs};
 use crate::denominators::denominators_of;
 use crate::lookup_steps::LookupSteps;
 use crate::memory::ColumnMemory;
 use crate::rows::selected_rows;
-use air::{SymbolicExpression, Traces};
+use air::SymbolicExpression;
 use field::{ExtensionDomain, Field};
 use lookup_model::Lookup;
 use std::alloc::{AllocError, Global};
-
-/// What the columns of lookups are made from.
-#[derive(Drop)]
-pub struct ColumnInputs<'a, F, EF> {
-    /// The traces of the AIR.
-    pub traces: &'a Traces<'a, F>,
-    /// An alpha and a beta for each lookup of the AIR, in the order of their columns.
-    pub challenges: &'a [EF],
-    /// The rows, in the order in which the columns have them.
-    pub rows: &'a [usize],
-}
-
-/// One tuple of a lookup on some rows.
-#[derive(Drop)]
-pub struct BranchColumns<F, EF> {
-    /// The flag of each row, in an exclusive lookup.
-    pub flags: Vec<F>,
-    /// For each row whose flag is not zero, its index among these rows. The entries of other rows
-    /// have no meaning. Only in an exclusive lookup.
-    pub indices: Vec<usize>,
-    /// The multiplicities, of each row or of each row whose flag is not zero.
-    pub multiplicities: Vec<F>,
-    /// The denominators of the same rows.
-    pub denominators: Vec<EF>,
-}
 
 /// The multiplicities and denominators of a tuple of a lookup on these rows, without flags. The lists
 /// have room for all rows of `inputs`.

@@ -14,7 +14,7 @@ ghost use Rattle.matrix.specs.Matrix.{height, row};
 
 use crate::slots::Slots;
 use crate::step::Step;
-use air::{BaseEntry, BaseLeaf, Traces};
+use air::{BaseEntry, BaseLeaf, Traces, next_row};
 use field::{Domain, Field};
 use matrix::RowMajorMatrix;
 use std::alloc::{AllocError, Global};
@@ -27,15 +27,6 @@ fn cell_of<F: Field>(values: &[F], width: usize, r: usize, index: usize) -> F
         (row (record { values = values.now; width = width }) r) index F.ring.zero }
 {
     values[r * width + index]
-}
-
-/// The row after a row of a trace that has this many rows; the first one comes after the last.
-pub fn next_row(row: usize, num_rows: usize) -> usize
-    requires { row < num_rows }
-    ensures next { result ≡ (row + 1) % num_rows }
-    ensures exists { result < num_rows }
-{
-    if row + 1 == num_rows { 0 } else { row + 1 }
 }
 
 /// A cell of the row after a row of the trace of this width that has these values, and so many rows.

@@ -7,8 +7,8 @@ ghost use Rattle.lookup_columns.specs.Columns.{tuple_denominators};
 ghost use Rattle.lookup_columns.specs.Steps.{AreStepsOf, StepsFit};
 ghost use Rattle.air.specs.Traces.{height_of, layout_of, traces_of, window_of};
 
-use crate::branches::ColumnInputs;
 use crate::column::{column_of, push_alike};
+use crate::columns::ColumnInputs;
 use crate::memory::ColumnMemory;
 use crate::step::Step;
 use field::{Domain, ExtensionDomain, Field};

@@ -8,6 +8,7 @@
 
 mod branches;
 mod column;
+mod columns;
 mod denominators;
 mod lookup_steps;
 mod memory;
@@ -16,8 +17,9 @@ mod slots;
 mod spare;
 mod step;
 
-pub use branches::{BranchColumns, ColumnInputs, columns_of_lookup};
-pub use column::{column_of, next_row};
+pub use branches::columns_of_lookup;
+pub use column::column_of;
+pub use columns::{BranchColumns, ColumnInputs};
 pub use denominators::denominators_of;
 pub use lookup_steps::{LookupSteps, steps_of_lookups};
 pub use memory::ColumnMemory;

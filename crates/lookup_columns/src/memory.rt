@@ -1,7 +1,7 @@
 //! The lists of columns, whose memory is used again for the next ones.
 ghost use Rattle.std.specs.Prelude.{◌≡◌, [], IfOk};
 
-use crate::branches::BranchColumns;
+use crate::columns::BranchColumns;
 use crate::slots::Slots;
 use crate::spare::SpareLists;
 use std::alloc::{AllocError, Global};

@@ -6,8 +6,8 @@ use Rattle.std.specs.List.{enumerate_from, filter, slice_get}
 use Rattle.field.specs.Ring.{IsDomain, Ring}
 use Rattle.lookup_model.specs.Fault.{are_boolean, set_indices}
 use Rattle.lookup_model.proofs.Lookups.Selections.{indices-more, set_is_one, zero_is_unset}
-use Rattle.lookup_rows.specs.Selection.{AreSetFlags}
-use Rattle.lookup_rows.specs.declared.flags.SetFlags.TheVariants.{Nothing, One}
+use Rattle.lookup_model.specs.Selection.{AreSetFlags}
+use Rattle.lookup_model.specs.declared.flags.SetFlags.TheVariants.{Nothing, One}
 use Rattle.lookup_generation.specs.internal.Flags.{AreNonzero, nonzero_indices}
 
 module _ {F : Type 0} (R : Ring F) (eq : F → F → Bool) (decides : (a b : F) → IsTrue (eq a b) ↔ (a ≡ b)) where

@@ -13,6 +13,7 @@ pub mod Lookups
 pub mod Names
 pub mod Prefixes
 pub mod RecordLaws
+pub mod SetFlagLaws
 pub mod SumDegreeLaws
 pub mod SumLaws
 pub mod TakenOut

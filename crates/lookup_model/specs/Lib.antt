@@ -16,6 +16,7 @@ pub mod Plain
 pub mod Points
 pub mod Records
 pub mod Refusal
+pub mod Selection
 pub mod Sent
 pub mod SumDegrees
 pub mod Terminals

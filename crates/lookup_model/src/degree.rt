@@ -4,6 +4,7 @@ ghost use Rattle.lookup_model.specs.LookupDegree.{IsDegree, constraint_degree_of
 ghost use Rattle.lookup_model.specs.Records.{HasEqualLengths};
 
 use crate::error::LookupError;
+use crate::expression_degree::{degree_of, degree_of_tuple, sum_of_degrees};
 use crate::sum_degrees::SumDegrees;
 use crate::types::Lookup;
 use expressions::SymbolicExpression;
@@ -78,35 +79,4 @@ fn branch_degree<F>(
     let denominator = sum_of_degrees(flag, degree_of_tuple(tuple, transition)?)?;
     let numerator = sum_of_degrees(flag, degree_of(multiplicity, transition)?)?;
     Ok(numerator.max(sum_of_degrees(1, denominator)?))
-}
-
-/// The greatest degree of an element, which is that of the tuple's denominator.
-pub(crate) fn degree_of_tuple<F>(
-    tuple: &[SymbolicExpression<F>],
-    transition: usize,
-) -> Result<usize, LookupError>
-    ensures { IsDegree result (tuple_degree transition tuple.now) }
-{
-    let mut degree = 0;
-    for element in tuple {
-        degree = degree.max(degree_of(element, transition)?);
-    }
-    Ok(degree)
-}
-
-/// The degree of an expression, if it fits `usize`.
-pub(crate) fn degree_of<F>(
-    expression: &SymbolicExpression<F>,
-    transition: usize,
-) -> Result<usize, LookupError>
-    ensures { IsDegree result (expression_degree transition expression.now) }
-{
-    Ok(expression.degree_multiple_with_transition(transition)?)
-}
-
-/// The sum, if it fits `usize`.
-pub(crate) fn sum_of_degrees(left: usize, right: usize) -> Result<usize, LookupError>
-    ensures { IsDegree result (left + right) }
-{
-    left.checked_add(right).ok_or(LookupError::DegreeOverflow)
 }

@@ -4,8 +4,8 @@ ghost use Rattle.lookup_model.specs.LookupDegree.{BranchDegrees, IsDegree, branc
 ghost use Rattle.lookup_model.specs.SumDegrees.{AreSumDegrees, IsTooGreat};
 ghost use Rattle.lookup_model.specs.Records.{HasEqualLengths};
 
-use crate::degree::{degree_of, degree_of_tuple, sum_of_degrees};
 use crate::error::LookupError;
+use crate::expression_degree::{degree_of, degree_of_tuple, sum_of_degrees};
 use crate::types::Lookup;
 use expressions::SymbolicExpression;
 

@@ -10,7 +10,6 @@ ghost use Rattle.lookup_record.specs.Records.{branch_of};
 
 use crate::builder::{IndexedLookupBuilder, InteractionBuilder};
 use crate::count::Count;
-use crate::indexed::{IndexedRead, IndexedTable, TraceWindow};
 use crate::interaction::{
     LocalTuple, SymbolicExclusiveBranch, SymbolicExclusiveInteraction, SymbolicInteraction,
     SymbolicLocalInteraction,
@@ -21,6 +20,7 @@ use air::{
     SymbolicVariable, SymbolicVariableExt, copy_expressions,
 };
 use field::{ExtensionField, Field};
+use lookup_indexed::{IndexedRead, IndexedTable, TraceWindow};
 use matrix::RowMajorMatrix;
 use std::alloc::{AllocError, Global};
 

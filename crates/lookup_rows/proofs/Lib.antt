@@ -3,4 +3,3 @@ pub mod Layouts
 pub mod NetEntries
 pub mod OwnWindow
 pub mod SentMessageLaws
-pub mod SetFlagLaws

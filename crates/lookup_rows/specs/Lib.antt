@@ -1,4 +1,3 @@
 pub mod Entries
-pub mod Selection
 pub mod SentMessages
 pub mod TraceBuilder

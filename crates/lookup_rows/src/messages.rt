@@ -11,12 +11,12 @@ ghost use Rattle.lookup_model.specs.Records.{AllFit, HasEqualLengths, IsWithin, 
 ghost use Rattle.lookup_model.specs.Sent.{branch_at, branches_at, sent, sent_at, values};
 ghost use Rattle.lookup_model.specs.Trace.{sent_row_under, sent_rows_under};
 
-use crate::flags::{SetFlags, set_flags};
+use crate::flags::set_flags;
 use crate::row::row_builder;
 use crate::trace_builder::LookupTraceBuilder;
 use air::{SymbolicExpression, Traces};
 use field::Field;
-use lookup_model::{Lookup, LookupError};
+use lookup_model::{Lookup, LookupError, SetFlags};
 use std::alloc::Global;
 
 /// A message: the id under which it is sent, the values of its tuple, and its multiplicity.

@@ -4,9 +4,8 @@ ghost use Rattle.air.specs.Traces.{height_of, layout_of, traces_of, window_of};
 ghost use Rattle.lookup_rows.specs.TraceBuilder.{builder_challenges, builder_layout, builder_row, builder_window};
 
 use crate::trace_builder::LookupTraceBuilder;
-use air::Traces;
+use air::{Traces, next_row};
 use field::{Domain, Field};
-use lookup_columns::next_row;
 use matrix::ViewPair;
 
 /// The builder of one row of an AIR's traces together with the next row; the last row comes with the

@@ -2,14 +2,16 @@
 ghost use Rattle.std.specs.Prelude.{◌↔◌, ◌<◌, All, IsTrue};
 ghost use Rattle.checker_witness.specs.Answers.{AreReady};
 
-use crate::inputs::{BALANCED, LOOKUPS, ON_A_BUS, UNBALANCED, lookups_of, table, trace};
-use crate::show::{Out, input, show};
 use air::AirLayout;
 use checker::{
     BatchInstance, Witness, check_witness, generate_batch, ids_are_kept, ids_are_lawful,
     instances_fit, some_witness, soundness_count,
 };
 use field::F7;
+use gate_memory_builders::inputs::{
+    BALANCED, LOOKUPS, ON_A_BUS, UNBALANCED, lookups_of, table, trace,
+};
+use gate_memory_builders::show::{Out, input, show};
 use lookup::debug_util::{LookupDebugInstance, LookupFault, check_lookups};
 use lookup::{Challenges, LogUpGadget, Lookup, LookupProtocol, fits};
 use matrix::RowMajorMatrix;

@@ -1,29 +1,12 @@
 //! Calls of AIR builders, and what they leave of a builder.
-use crate::airs::{BusCall, PUSHES, Push, Zeros, call_bus, make_push};
-use crate::inputs::{Recorder, cell, ext_cell, layout};
-use crate::over::{Call, over_recorder};
-use crate::show::{Out, input, show};
-use air::{
-    Air, AirBuilder, ExtensionBuilder, PermutationAirBuilder, SymbolicAirBuilder, current_cell,
-    current_cells, next_cell,
-};
+use air::{AirBuilder, ExtensionBuilder, PermutationAirBuilder, SymbolicAirBuilder};
 use field::{F7, Field};
-use lookup::InteractionBuilder;
+use gate_memory_builders::airs::{BusCall, PUSHES, Push, make_push};
+use gate_memory_builders::inputs::{Recorder, cell, ext_cell, layout};
+use gate_memory_builders::over::{Call, over_recorder};
+use gate_memory_builders::show::{Out, input, show};
 use std::alloc::Global;
 use std::fmt::Debug;
-
-/// Calls on a builder that read cells, and the one that asserts some.
-pub fn on_cells<AB: AirBuilder + Debug>(alloc: Global, out: &mut Out, builder: &mut AB)
-where
-    AB::Expr: Debug,
-{
-    show(out, "current_cell", current_cell(alloc, &*builder, 3, 0));
-    show(out, "next_cell", next_cell(alloc, &*builder, 3, 1));
-    let cells = current_cells(alloc, &*builder, 3, &[2, 1]);
-    show(out, "current_cells", cells);
-    show(out, "assert_zeros", Zeros.eval(alloc, builder));
-    show(out, "left", &*builder);
-}
 
 /// Makes this push five times, and shows the recorder before and after each: a list grows at its first and at its
 /// fifth item.
@@ -61,21 +44,6 @@ fn assert_five_times<F: Field + Debug>(alloc: Global, out: &mut Out, is_ext: boo
             show(out, "after", &builder);
         }
         drop(builder);
-    }
-}
-
-/// Makes this call five times, as [`push_five_times`] does.
-pub fn call_five_times<AB: InteractionBuilder + ExtensionBuilder + Debug>(
-    alloc: Global,
-    out: &mut Out,
-    builder: &mut AB,
-    call: BusCall,
-) {
-    let name = call.name();
-    for _ in 0..5 {
-        show(out, "before", &*builder);
-        show(out, name, call_bus(alloc, builder, call));
-        show(out, "after", &*builder);
     }
 }
 

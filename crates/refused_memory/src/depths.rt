@@ -4,14 +4,14 @@
 //! whose other operand, on the left or on the right, is a constant that changes nothing.
 use crate::batches::{check_alone, show_mismatch};
 use crate::generations::show_generated;
-use crate::inputs::{BALANCED, alone, trace};
-use crate::over::{Call, over_recorder};
 use crate::sets::{pack_lookups, show_degrees};
-use crate::show::{Out, input, show};
 use crate::texts::written;
 use crate::trees;
 use air::{Expression, SymbolicExpression, SymbolicExpressionExt};
 use field::F7;
+use gate_memory_builders::inputs::{BALANCED, alone, trace};
+use gate_memory_builders::over::{Call, over_recorder};
+use gate_memory_builders::show::{Out, input, show};
 use lookup::{Kind, Lookup};
 use std::alloc::{AllocError, Global};
 

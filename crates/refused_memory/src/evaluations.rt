@@ -3,71 +3,16 @@ ghost use Rattle.std.specs.Prelude.{◌≡◌, None};
 ghost use Rattle.std.specs.Option.{option_copied};
 ghost use Rattle.air.specs.Row.{HeightFits, OptionHeightFits};
 ghost use Rattle.matrix.specs.Matrix.{height};
-ghost use Rattle.refused_memory.specs.internal.Layout.{swept_layout};
 
-use crate::airs::Zeros;
-use crate::inputs::{LOOKUPS, lookups_of, trace};
-use crate::layouts::has_room;
-use crate::over::{Call, over_recorder};
-use crate::show::{Out, show};
-use air::{AirError, Expression, PermutationAirBuilder, RowInputs, check_rows};
-use field::{F7, PrimeCharacteristicRing};
-use lookup::{LogUpGadget, Lookup, LookupProtocol, has_equal_lengths};
+use air::{AirError, RowInputs, check_rows};
+use field::F7;
+use gate_memory_builders::airs::Zeros;
+use gate_memory_builders::any_builder::Evaluation;
+use gate_memory_builders::inputs::{LOOKUPS, lookups_of, trace};
+use gate_memory_builders::over::{Call, over_recorder};
+use gate_memory_builders::show::{Out, show};
 use matrix::RowMajorMatrix;
 use std::alloc::Global;
-
-/// An evaluation: of all lookups, of the accumulator with the terminal 0, of an AIR and all lookups, or of the
-/// fraction of the first lookup.
-#[derive(Clone, Copy)]
-pub enum Evaluation {
-    All,
-    Accumulator,
-    AirAndLookups,
-    Fraction,
-}
-
-impl Evaluation {
-    /// The name in the lines.
-    pub fn name(self) -> &'static str {
-        match self {
-            Evaluation::All => "eval_all",
-            Evaluation::Accumulator => "eval_accumulator",
-            Evaluation::AirAndLookups => "eval_air_and_lookups",
-            Evaluation::Fraction => "eval_fraction",
-        }
-    }
-}
-
-/// Makes this evaluation.
-pub fn evaluate<AB: PermutationAirBuilder>(
-    alloc: Global,
-    builder: &mut AB,
-    lookups: &[Lookup<AB::F>],
-    evaluation: Evaluation,
-) -> Result<(), AirError>
-    requires { AB.layout builder.old ≡ swept_layout }
-{
-    if !has_room(lookups) {
-        return Err(AirError::DegreeOverflow);
-    }
-    let gadget = LogUpGadget::new();
-    match evaluation {
-        Evaluation::All => gadget.eval_all(alloc, builder, lookups),
-        Evaluation::Accumulator => {
-            let terminal = AB::ExprEF::constant(AB::EF::ZERO);
-            gadget.eval_accumulator(alloc, builder, lookups, terminal)
-        }
-        Evaluation::AirAndLookups => {
-            gadget.eval_air_and_lookups(alloc, &Zeros, builder, lookups)
-        }
-        Evaluation::Fraction => match lookups {
-            [lookup, ..] if has_equal_lengths(lookup) && lookup.column == 0 => {
-                gadget.eval_fraction(alloc, builder, lookup)
-            }
-            _ => Err(AirError::DegreeOverflow),
-        },
-    }
-}
 
 /// No preprocessed trace beside this one.
 fn no_preprocessed<'a>(_main: &'a RowMajorMatrix<F7>) -> Option<&'a RowMajorMatrix<F7>>

@@ -3,12 +3,12 @@ ghost use Rattle.std.specs.Prelude.{◌*◌, ◌≤◌, None, length};
 ghost use Rattle.expressions.specs.Layout.{layout_of_traces};
 ghost use Rattle.lookup_model.specs.Records.{LookupsFit};
 
-use crate::inputs::{
-    BALANCED, LOCAL, LOOKUPS, UNLAWFUL, VANISHING, elements, lookups_of, read, table, trace,
-};
-use crate::show::{Out, input, show};
 use air::{AirLayout, Traces};
 use field::{ExtensionField, F7, Field, InverseCount};
+use gate_memory_builders::inputs::{
+    BALANCED, LOCAL, LOOKUPS, UNLAWFUL, VANISHING, elements, lookups_of, read, table, trace,
+};
+use gate_memory_builders::show::{Out, input, show};
 use lookup::{Challenges, LogUpGadget, Lookup, LookupError, LookupProtocol, LookupTerminal, fits};
 use matrix::RowMajorMatrix;
 use serde::DeserializeOwned;

@@ -8,25 +8,20 @@
 //!   lookup of it.
 #![tactic(auto)]
 
-mod airs;
 mod batches;
 mod builders;
 mod depths;
 mod evaluations;
 mod fields;
 mod generations;
-mod inputs;
-mod layouts;
-mod over;
 mod plans;
-mod records;
 mod sets;
-mod show;
 mod texts;
 mod trees;
 
 use field::{BabyBear, BabyBear4, F7};
-use show::Out;
+use gate_memory_builders::records;
+use gate_memory_builders::show::Out;
 use std::alloc::Global;
 use std::env;
 use std::io::BufWriter;

@@ -1,10 +1,12 @@
 //! Calls of plans, and of the memory check.
-use crate::inputs::{BALANCED, LOOKUPS, UNBALANCED, UNEVEN, UNEVEN_LOCAL, alone, trace};
 use crate::sets::set;
-use crate::show::{Out, input, show};
 use batch::{BatchError, BatchPlan, BatchTrace};
 use checker::Witness;
 use field::{BabyBear, BabyBear4, F7, PrimeCharacteristicRing};
+use gate_memory_builders::inputs::{
+    BALANCED, LOOKUPS, UNBALANCED, UNEVEN, UNEVEN_LOCAL, alone, trace,
+};
+use gate_memory_builders::show::{Out, input, show};
 use matrix::RowMajorMatrix;
 use memory_check::{MemoryTraces, check_memory, memory_plan};
 use std::alloc::Global;

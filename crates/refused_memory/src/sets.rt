@@ -1,8 +1,10 @@
 //! Calls on lookups and on sets of them.
-use crate::airs::EachRecord;
-use crate::inputs::{LOOKUPS, ON_TWO_BUSES, UNEVEN, UNEVEN_LOCAL, layout, lookups_of};
-use crate::show::{Out, input, show};
 use field::F7;
+use gate_memory_builders::airs::EachRecord;
+use gate_memory_builders::inputs::{
+    LOOKUPS, ON_TWO_BUSES, UNEVEN, UNEVEN_LOCAL, layout, lookups_of,
+};
+use gate_memory_builders::show::{Out, input, show};
 use lookup::{
     LogUpGadget, Lookup, LookupError, LookupProtocol, Lookups, assert_uniform_tuple_width,
     check_bus_widths, check_multiplicity_height_bound, has_equal_lengths,

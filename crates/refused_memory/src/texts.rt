@@ -1,8 +1,8 @@
 //! Texts that are written and read, and texts from outside.
-use crate::inputs::{LOOKUPS, layout};
 use crate::sets::set;
-use crate::show::{Out, input, show};
 use field::{BabyBear, BabyBear4, F7};
+use gate_memory_builders::inputs::{LOOKUPS, layout};
+use gate_memory_builders::show::{Out, input, show};
 use lookup::{IndexedDeclarations, IndexedLookups, Lookup, LookupTerminal, Lookups};
 use serde::{Deserialize, DeserializeOwned, Serialize};
 use serde_json::Value;

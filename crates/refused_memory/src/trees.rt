@@ -1,15 +1,9 @@
 //! Calls of expressions.
-ghost use Rattle.std.specs.Prelude.{◌≡◌};
-ghost use Rattle.refused_memory.specs.internal.Layout.{swept_layout};
-
-use crate::inputs::{TREES, layout, read};
-use crate::over::{Call, over_recorder};
-use crate::show::{Out, input, show};
-use air::{
-    AirBuilder, Expression, ExtLeaf, SymbolicExpression, SymbolicExpressionExt, copy_expressions,
-    resolve_over,
-};
+use air::{Expression, ExtLeaf, SymbolicExpression, SymbolicExpressionExt, copy_expressions};
 use field::{ExtensionField, F7, Field};
+use gate_memory_builders::inputs::{TREES, layout, read};
+use gate_memory_builders::over::{Call, over_recorder};
+use gate_memory_builders::show::{Out, input, show};
 use std::alloc::{AllocError, Global};
 use std::fmt::Debug;
 
@@ -73,30 +67,6 @@ fn on_lifted(alloc: Global, out: &mut Out) {
     if let Some(negative) = input(out, one.neg(alloc)) {
         let tree = SymbolicExpressionExt::Leaf(ExtLeaf::Base(negative));
         on_ext_tree::<F7, F7>(alloc, out, &tree);
-    }
-}
-
-/// Calls that resolve expressions which fit: on a builder, and with its main window.
-pub fn resolve_all<AB: AirBuilder>(
-    alloc: Global,
-    out: &mut Out,
-    trees: &[SymbolicExpression<AB::F>],
-    builder: &AB,
-)
-where
-    AB::Expr: Debug,
-    requires { AB.layout builder.now ≡ swept_layout }
-{
-    let Ok(main) = builder.main(alloc) else {
-        return out.close();
-    };
-    let layout = layout();
-    for tree in trees {
-        if tree.fits(&layout) {
-            show(out, "resolve", tree.resolve(alloc, builder));
-            let answer = resolve_over(alloc, tree, builder, &main);
-            show(out, "resolve_over", answer);
-        }
     }
 }
 

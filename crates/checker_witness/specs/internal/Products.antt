@@ -1,7 +1,7 @@
 -- The constraint of a fraction, for one tuple without flags.
 use Rattle.std.specs.Prelude.{◌≡◌, ◌-◌, ◌+◌, ℕ, slice_index_or}
 use Rattle.field.specs.Ring.{Ring}
-use Rattle.lookup_columns.specs.declared.branches.BranchColumns.{BranchColumns}
+use Rattle.lookup_columns.specs.declared.columns.BranchColumns.{BranchColumns}
 use Rattle.matrix.specs.Matrix.{Matrix, row}
 
 -- the fraction of a lookup's column on a row

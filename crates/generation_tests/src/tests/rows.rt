@@ -3,7 +3,7 @@ use super::holds;
 use air::{AirBuilder, AirError, judge};
 use field::{F7, PrimeCharacteristicRing};
 use lookup::traits::LookupTraceBuilder;
-use lookup_rows::{SetFlags, with_flag};
+use lookup_model::{SetFlags, with_flag};
 use matrix::{ViewPair, WindowAccess};
 use std::alloc::Global;
 use std::process::Abort;

@@ -6,7 +6,7 @@ use Rattle.std.specs.declared.vec.Vec.{Vec}
 use Rattle.field.specs.Ring.{Ring}
 use Rattle.expressions.specs.Window.{Window}
 use Rattle.lookup_columns.specs.ChunkColumns.{StoreLookup}
-use Rattle.lookup_columns.specs.declared.branches.BranchColumns.{BranchColumns}
+use Rattle.lookup_columns.specs.declared.columns.BranchColumns.{BranchColumns}
 use Rattle.lookup_model.specs.declared.types.Lookup.{Lookup}
 
 module _ {F K : Type 0} (R : Ring F) (S : Ring K) (embed : F → K) (challenges : List K) (window : ℕ → Window F) (first end : ℕ) where

@@ -6,7 +6,7 @@ use Rattle.std.specs.List.{AllZip}
 use Rattle.lists.proofs.Items.{take_item, read_is}
 use Rattle.lookup_columns.proofs.ZipLaws.{Beside, beside}
 use Rattle.lookup_columns.specs.ChunkColumns.{IsStored}
-use Rattle.lookup_columns.specs.declared.branches.BranchColumns.{BranchColumns}
+use Rattle.lookup_columns.specs.declared.columns.BranchColumns.{BranchColumns}
 use Rattle.lookup_model.proofs.TakenOut.{product_of-push, sum_of-push}
 use Rattle.lookup_model.specs.Constraints.{additive_denominator, additive_numerator}
 use Rattle.field.specs.laws.Extension.{of_laws}

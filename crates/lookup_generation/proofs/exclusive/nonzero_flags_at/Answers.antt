@@ -6,7 +6,7 @@ use Rattle.std.proofs.lemmas.Slice.Zip.{AllZip-long}
 use Rattle.lists.proofs.Items.{read_is, take_item}
 use Rattle.lookup_columns.proofs.ZipLaws.{Beside, beside}
 use Rattle.lookup_columns.specs.ChunkColumns.{HasFlag}
-use Rattle.lookup_columns.specs.declared.branches.BranchColumns.{BranchColumns}
+use Rattle.lookup_columns.specs.declared.columns.BranchColumns.{BranchColumns}
 use Rattle.lookup_generation.specs.internal.Flags.{AreNonzero}
 use Rattle.lookup_generation.proofs.FlagLaws.{nonzero_more, zero_more}
 use Rattle.lookup_generation.proofs.exclusive.nonzero_flags_at.Goals.{then-not-is_zero, else-not-is_zero}

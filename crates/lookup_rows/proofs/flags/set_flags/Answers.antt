@@ -6,7 +6,7 @@ use Rattle.lists.proofs.Items.{split_at}
 use Rattle.lookup_model.specs.Fault.{are_boolean}
 use Rattle.lookup_model.proofs.RecordLaws.{Fits-at}
 use Rattle.lookup_model.specs.Sent.{value, values}
-use Rattle.lookup_rows.specs.Selection.{AreSetFlags}
+use Rattle.lookup_model.specs.Selection.{AreSetFlags}
 use Rattle.lookup_rows.specs.TraceBuilder.{builder_layout, builder_window}
 use Rattle.lookup_model.proofs.Lookups.Selections.{not_boolean}
 use Rattle.lookup_model.specs.declared.error.LookupError.TheVariants.{FlagNotBoolean}

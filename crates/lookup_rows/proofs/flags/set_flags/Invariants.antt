@@ -1,6 +1,6 @@
 use Rattle.std.proofs.Common.{take}
 use Rattle.lookup_model.specs.Sent.{values}
-use Rattle.lookup_rows.specs.Selection.{AreSetFlags}
+use Rattle.lookup_model.specs.Selection.{AreSetFlags}
 use Rattle.lookup_rows.specs.TraceBuilder.{builder_window}
 use Rattle.lookup_rows.proofs.flags.set_flags.Given as goal
 

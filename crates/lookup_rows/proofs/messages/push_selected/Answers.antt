@@ -3,15 +3,15 @@ use Rattle.std.proofs.lemmas.List.{append-nil, length-map}
 use Rattle.std.proofs.lemmas.Result.{MatchResult-weaker}
 use Rattle.lists.proofs.Zips.{zipped_at}
 use Rattle.field.specs.Ring.{Ring}
-use Rattle.lookup_rows.specs.declared.flags.SetFlags.{SetFlags}
+use Rattle.lookup_model.specs.declared.flags.SetFlags.{SetFlags}
 use Rattle.lookup_model.proofs.Branches.{length-branches_at}
 use Rattle.lookup_model.proofs.RecordLaws.{multiplicity_fits, tuple_fits}
 use Rattle.lookup_model.specs.Sent.{branch_at, branches_at, values}
 use Rattle.lookup_model.proofs.Lookups.Selections.{index_within}
-use Rattle.lookup_rows.specs.Selection.{AreSetFlags}
+use Rattle.lookup_model.specs.Selection.{AreSetFlags}
 use Rattle.lookup_rows.specs.SentMessages.{messages_of}
 use Rattle.lookup_rows.specs.TraceBuilder.{builder_layout, builder_window}
-use Rattle.lookup_rows.specs.declared.flags.SetFlags.TheVariants.{Nothing, One}
+use Rattle.lookup_model.specs.declared.flags.SetFlags.TheVariants.{Nothing, One}
 use Rattle.lookup_rows.proofs.SentMessageLaws.{in_front, no_flag, one_flag}
 use Rattle.lookup_rows.proofs.messages.push_selected.Goals as goal
 

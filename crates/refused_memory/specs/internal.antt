@@ -1,2 +1,0 @@
--- What contracts of private functions and proofs are stated with. No public contract rests on it.
-pub mod Layout
