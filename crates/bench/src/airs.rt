@@ -4,7 +4,7 @@ ghost use Rattle.std.specs.Prelude.{◌<◌};
 use air::Expression;
 use batch::{BatchError, BatchPlan, BatchTrace};
 use bench_shapes::{column, columns, element, trace};
-use field::{BabyBear, BabyBear4};
+use field_monty::{BabyBear, BabyBear4};
 use lookup::{Challenges, Kind, Lookup, LookupError, Lookups};
 use matrix::RowMajorMatrix;
 use std::alloc::{AllocError, Global};

@@ -1,7 +1,7 @@
 //! Checksums of auxiliary traces.
 
 use bench_shapes::element;
-use field::BabyBear4;
+use field_monty::BabyBear4;
 use lookup::LookupTerminal;
 use matrix::RowMajorMatrix;
 

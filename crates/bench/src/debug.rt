@@ -6,7 +6,7 @@ ghost use Rattle.lookup_model.specs.Records.{LookupsFit};
 use crate::debug_shapes::{lookups_of, width_of};
 use air::AirLayout;
 use bench_shapes::trace;
-use field::BabyBear;
+use field_monty::BabyBear;
 use lookup_debug::{LookupDebugInstance, LookupFault, check_lookups};
 use lookup_model::{Lookup, fits};
 use matrix::RowMajorMatrix;

@@ -3,7 +3,8 @@ ghost use Rattle.std.specs.Prelude.{◌<◌};
 
 use air::{Expression, SymbolicExpression};
 use bench_shapes::{column, columns};
-use field::{BabyBear, PrimeCharacteristicRing};
+use field::PrimeCharacteristicRing;
+use field_monty::BabyBear;
 use lookup_model::{Kind, Lookup};
 use std::alloc::{AllocError, Global};
 

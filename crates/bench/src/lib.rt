@@ -15,7 +15,7 @@ mod plans;
 mod shapes;
 
 use bench_shapes::{REFUSED, generate};
-use field::{BabyBear, BabyBear4};
+use field_monty::{BabyBear, BabyBear4};
 use goldilocks::{Goldilocks, Goldilocks2};
 use std::alloc::Global;
 

@@ -2,7 +2,7 @@
 ghost use Rattle.std.specs.Prelude.{◌<◌};
 
 use bench_shapes::{REFUSED, column, columns};
-use field::BabyBear;
+use field_monty::BabyBear;
 use lookup::{Kind, LogUpGadget, Lookup, LookupError, Lookups};
 use std::alloc::{AllocError, Global};
 

@@ -4,7 +4,8 @@ use crate::airs::{Planned, alpha, beta};
 use crate::checksums::checksum;
 use batch::BatchError;
 use bench_shapes::{REFUSED, number};
-use field::{BabyBear4, PrimeCharacteristicRing};
+use field::PrimeCharacteristicRing;
+use field_monty::BabyBear4;
 use lookup::LookupError;
 use std::alloc::Global;
 

@@ -10,7 +10,8 @@ mod shapes;
 
 use crate::shapes::challenges_of;
 use air::{AirLayout, Traces};
-use field::{BabyBear, BabyBear4, PrimeCharacteristicRing};
+use field::PrimeCharacteristicRing;
+use field_monty::{BabyBear, BabyBear4};
 use lookup_generation::generate_permutation;
 use lookup_model::{Lookup, LookupError, LookupTerminal, fits};
 use matrix::RowMajorMatrix;

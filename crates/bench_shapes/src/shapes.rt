@@ -2,7 +2,8 @@
 ghost use Rattle.std.specs.Prelude.{◌<◌};
 
 use air::{BaseEntry, BaseLeaf, Expression, SymbolicExpression, SymbolicVariable};
-use field::{BabyBear, BabyBear4, PrimeCharacteristicRing};
+use field::PrimeCharacteristicRing;
+use field_monty::{BabyBear, BabyBear4};
 use lookup_model::{Challenges, Kind, Lookup};
 use std::alloc::{AllocError, Global};
 

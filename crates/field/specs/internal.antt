@@ -1,7 +1,3 @@
 -- What contracts of private functions and proofs are stated with. No public contract rests on it.
-pub mod Four
-pub mod Lanes
 pub mod Lists
-pub mod NormLists
-pub mod Planes
 pub mod Polynomial

@@ -8,10 +8,14 @@ use std::alloc::{AllocError, Global};
 /// divided, and what they hold between two divisions has no meaning.
 #[derive(Drop)]
 pub struct DivisionLists<K> {
-    pub(crate) inverses: Vec<K>,
-    pub(crate) low: Vec<K>,
-    pub(crate) high: Vec<K>,
-    pub(crate) norms: Vec<K>,
+    /// Inverses, or the products on the way to them.
+    pub inverses: Vec<K>,
+    /// One part of each norm, where a division goes by norms.
+    pub low: Vec<K>,
+    /// The other part of each norm.
+    pub high: Vec<K>,
+    /// The norms.
+    pub norms: Vec<K>,
 }
 
 impl<K> DivisionLists<K> {
@@ -29,7 +33,7 @@ impl<K> DivisionLists<K> {
 }
 
 /// Makes a list hold `value` at `n` places, and nothing else.
-pub(crate) fn refill<T: Copy>(list: &mut Vec<T>, value: T, n: usize) -> Result<(), AllocError>
+pub fn refill<T: Copy>(list: &mut Vec<T>, value: T, n: usize) -> Result<(), AllocError>
     ensures { OnOk result (list.new.items ≡ replicate n value) }
 {
     list.clear();

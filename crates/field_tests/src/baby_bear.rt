@@ -1,5 +1,6 @@
 use crate::cases::{has_text, holds, holds_at, inverts, is, zero_has_no_inverse};
-use field::{BabyBear, Domain, PrimeCharacteristicRing};
+use field::{Domain, PrimeCharacteristicRing};
+use field_monty::BabyBear;
 
 #[test]
 fn whole_numbers_are_reduced(rt: HostRuntime) {

@@ -1,5 +1,6 @@
 use crate::cases::{has_text, holds, holds_at, inverts, is, zero_has_no_inverse};
-use field::{BabyBear, BabyBear4, Domain, ExtensionDomain, Field, PrimeCharacteristicRing};
+use field::{Domain, ExtensionDomain, Field, PrimeCharacteristicRing};
+use field_monty::{BabyBear, BabyBear4};
 
 /// The polynomial with these coefficients, lowest power first.
 fn quartic(c0: u32, c1: u32, c2: u32, c3: u32) -> BabyBear4 {

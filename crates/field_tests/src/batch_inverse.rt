@@ -3,9 +3,10 @@ ghost use Rattle.field.specs.IntegersModulo7.{f7_ring};
 
 use crate::cases::{holds, holds_at};
 use field::{
-    BabyBear4, Domain, F7, Field, InverseCount, batch_multiplicative_inverse,
+    Domain, F7, Field, InverseCount, batch_multiplicative_inverse,
     batch_multiplicative_inverse_into,
 };
+use field_monty::BabyBear4;
 use std::alloc::{AllocError, Global};
 
 /// Nine elements modulo 7, and the inverse of each: 2 * 4 and 3 * 5 are 8 and 15, and 6 * 6 is 36.

@@ -2,8 +2,10 @@ ghost use Rattle.std.specs.Prelude.{◌≡◌, ◌≢◌, IfOk, All, length};
 
 use crate::cases::{holds, holds_at};
 use field::{
-    BabyBearParameters, DivisionLists, Domain, ExtensionField, F2, F7, Field, InverseCount,
-    KoalaBearParameters, MontyField31, MontyQuartic, PrimeCharacteristicRing, QuarticParameters,
+    DivisionLists, Domain, ExtensionField, F2, F7, Field, InverseCount, PrimeCharacteristicRing,
+};
+use field_monty::{
+    BabyBearParameters, KoalaBearParameters, MontyField31, MontyQuartic, QuarticParameters,
 };
 use goldilocks::{Goldilocks, Goldilocks2};
 use std::alloc::{AllocError, Global};

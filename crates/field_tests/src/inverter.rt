@@ -1,7 +1,8 @@
 ghost use Rattle.std.specs.Prelude.{◌≡◌, ◌-◌, ◌^◌};
 
 use crate::cases::{holds, is};
-use field::{BabyBear4, F7, Field, InverseCount, Inverter, PrimeCharacteristicRing};
+use field::{F7, Field, InverseCount, Inverter, PrimeCharacteristicRing};
+use field_monty::BabyBear4;
 use std::process::Abort;
 
 /// Ends the test where the inverse of `what` is another element, or none.

@@ -1,5 +1,6 @@
 use crate::cases::{holds, holds_for};
-use field::{BabyBear, BabyBear4, F2, F7, KoalaBear, KoalaBear4};
+use field::{F2, F7};
+use field_monty::{BabyBear, BabyBear4, KoalaBear, KoalaBear4};
 use goldilocks::{Goldilocks, Goldilocks2};
 use serde::{Deserialize, DeserializeOwned, Serialize};
 use serde_json::Value;

@@ -1,6 +1,7 @@
 //! What sets `KoalaBear` and `KoalaBear4` apart: their constants. All else is one proof with `BabyBear`.
 use crate::cases::{has_text, holds, holds_at, inverts, is, zero_has_no_inverse};
-use field::{KoalaBear, KoalaBear4, PrimeCharacteristicRing};
+use field::PrimeCharacteristicRing;
+use field_monty::{KoalaBear, KoalaBear4};
 
 #[test]
 fn whole_numbers_are_reduced(rt: HostRuntime) {

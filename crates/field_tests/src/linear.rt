@@ -1,5 +1,6 @@
 use crate::cases::{holds, is};
-use field::{BabyBear, BabyBear4, F7, PrimeCharacteristicRing, dot_product, powers};
+use field::{F7, PrimeCharacteristicRing, dot_product, powers};
+use field_monty::{BabyBear, BabyBear4};
 use std::alloc::Global;
 
 /// Whether the first powers of an element are these.

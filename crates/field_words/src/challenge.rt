@@ -4,10 +4,8 @@ ghost use Rattle.field.specs.Ring.{of_nat};
 ghost use Rattle.field_words.specs.Fields.{Fields, run_fields};
 ghost use Rattle.field_words.specs.Words.{WritesNumbers, WritesQuadratic, WritesQuartic, WritesResidue, number_of, number_bound};
 
-use field::{
-    ExtensionField, F7, Field, MontyField31, MontyQuartic, PrimeCharacteristicRing,
-    QuarticParameters,
-};
+use field::{ExtensionField, F7, Field, PrimeCharacteristicRing};
+use field_monty::{MontyField31, MontyQuartic, QuarticParameters};
 use goldilocks::{Goldilocks, Goldilocks2};
 
 /// A field whose elements can be given as challenges for rows over the field `F`. `written` says

@@ -3,7 +3,7 @@ use Rattle.std.proofs.Common.{◌<◌, ◌≡◌, ℕ, List, MatchResult, Result
 use Rattle.std.proofs.lemmas.Result.{MatchResult-weaker}
 use Rattle.air.specs.Traces.{AirTraces}
 use Rattle.field.specs.Extension.{Extension}
-use Rattle.field.specs.Quartic.{Quartic}
+use Rattle.field_monty.specs.Quartic.{Quartic}
 use Rattle.field.specs.Residue.{Residue}
 use Rattle.lookup_model.specs.Challenges.{column_challenges}
 use Rattle.lookup_model.specs.declared.types.Lookup.{Lookup}

@@ -6,7 +6,7 @@ use Rattle.std.proofs.lemmas.List.Elements.{All-head, All-tail}
 use Rattle.std.proofs.lemmas.Nat.{mul-add-lt}
 use native.Mathlib.Nat.{mul_comm}
 use Rattle.std.specs.List.{flat_map, range_with_len}
-use Rattle.field.specs.Quartic.{Quartic, quartic_ring}
+use Rattle.field_monty.specs.Quartic.{Quartic, quartic_ring}
 use Rattle.field.specs.Residue.{Residue, residue_of, residue_same}
 use Rattle.field.specs.ResidueRing.{residue_ring}
 use Rattle.field.specs.Ring.{Ring}

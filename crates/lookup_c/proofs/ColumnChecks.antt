@@ -3,7 +3,7 @@ use Rattle.std.proofs.Common.{◌<◌, ◌≡◌, ◌⊎◌, ℕ, List, MatchRes
 use Rattle.std.proofs.lemmas.Result.{MatchResult-weaker}
 use Rattle.field.specs.Residue.{Residue}
 use Rattle.field.specs.Extension.{Extension}
-use Rattle.field.specs.Quartic.{Quartic}
+use Rattle.field_monty.specs.Quartic.{Quartic}
 use Rattle.air.specs.Traces.{AirTraces}
 use Rattle.checker_witness.specs.Columns.{IsColumnsRefusal}
 use Rattle.lookup_model.specs.Batches.Witnesses.{AirResult}

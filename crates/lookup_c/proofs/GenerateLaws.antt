@@ -4,7 +4,7 @@ use Rattle.std.proofs.lemmas.Result.{MatchResult-weaker}
 use Rattle.field.specs.Residue.{Residue}
 use Rattle.air.specs.Traces.{AirTraces}
 use Rattle.field.specs.Extension.{Extension}
-use Rattle.field.specs.Quartic.{Quartic}
+use Rattle.field_monty.specs.Quartic.{Quartic}
 use Rattle.lookup_model.specs.Generation.{AnswersGeneration}
 use Rattle.lookup_model.specs.declared.error.LookupError.{LookupError}
 use Rattle.lookup_model.specs.declared.types.Lookup.{Lookup}

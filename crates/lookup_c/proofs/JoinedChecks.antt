@@ -4,7 +4,7 @@ use Rattle.field.specs.Residue.{Residue}
 use Rattle.air.specs.Traces.{AirTraces, height_of}
 use Rattle.checker_witness.specs.Ranges.{RowsHoldUntil}
 use Rattle.field.specs.Extension.{Extension}
-use Rattle.field.specs.Quartic.{Quartic}
+use Rattle.field_monty.specs.Quartic.{Quartic}
 use Rattle.matrix.proofs.Shapes.{shaped_by_rows}
 use Rattle.matrix.specs.Matrix.{Matrix, height}
 use Rattle.lookup_model.proofs.Lookups.PlainResults.{height_of as rows_of_values}

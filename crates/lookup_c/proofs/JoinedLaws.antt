@@ -4,7 +4,7 @@ use Rattle.std.proofs.lemmas.List.{map-append}
 use Rattle.field.specs.Residue.{Residue}
 use Rattle.air.specs.Traces.{AirTraces, height_of}
 use Rattle.field.specs.Extension.{Extension}
-use Rattle.field.specs.Quartic.{Quartic}
+use Rattle.field_monty.specs.Quartic.{Quartic}
 use Rattle.lookup_generation.specs.Ranges.{AnswersRows, RangesJoin, joined_rows, shifted, terminal_if_any}
 use Rattle.lookup_model.specs.Challenges.{column_challenges}
 use Rattle.lookup_model.specs.Denominators.{key_denominator}

@@ -5,7 +5,7 @@ use Rattle.air.specs.Traces.{AirTraces}
 use Rattle.checker_witness.specs.Columns.{ColumnsHoldUntil, HasColumns}
 use Rattle.checker_witness.specs.Ranges.{RangeAddsUp, RowsHoldUntil}
 use Rattle.field.specs.Extension.{Extension}
-use Rattle.field.specs.Quartic.{Quartic}
+use Rattle.field_monty.specs.Quartic.{Quartic}
 use Rattle.matrix.specs.Matrix.{Matrix}
 use Rattle.lookup_model.specs.Batches.Instances.{Instance}
 use Rattle.lookup_model.specs.Batches.Refusals.{HasShapeAt, IsShapeRefusal}

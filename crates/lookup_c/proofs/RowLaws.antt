@@ -3,7 +3,7 @@ use Rattle.std.proofs.Common.{◌<◌, ◌≡◌, ◌≢◌, ◌⊎◌, ◌∙�
 use Rattle.field.specs.Residue.{Residue}
 use Rattle.air.specs.Traces.{AirTraces}
 use Rattle.field.specs.Extension.{Extension}
-use Rattle.field.specs.Quartic.{Quartic}
+use Rattle.field_monty.specs.Quartic.{Quartic}
 use Rattle.matrix.specs.Matrix.{Matrix}
 use Rattle.lookup_generation.specs.Ranges.{AnswersRows}
 use Rattle.lookup_model.specs.Challenges.{column_challenges}

@@ -4,7 +4,7 @@ use Rattle.std.specs.List.{AllZip}
 use Rattle.field.specs.Residue.{Residue}
 use Rattle.expressions.specs.Faults.{HasFirstFault}
 use Rattle.field.specs.Extension.{Extension}
-use Rattle.field.specs.Quartic.{Quartic}
+use Rattle.field_monty.specs.Quartic.{Quartic}
 use Rattle.lookup_model.specs.Records.{IsFirstMalformed}
 use Rattle.lookup_model.specs.declared.error.LookupError.TheVariants.{BadRecord}
 use Rattle.lookup_model.specs.declared.types.Lookup.{Lookup}

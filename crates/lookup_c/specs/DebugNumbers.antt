@@ -2,7 +2,7 @@
 use Rattle.std.specs.Prelude.{◌<◌, ◌≡◌, ◌≢◌, ◌≤◌, ◌⊎◌, ℕ, List, MatchOption, Option, length, map}
 use Rattle.field.specs.Residue.{Residue}
 use Rattle.field.specs.Extension.{Extension}
-use Rattle.field.specs.Quartic.{Quartic}
+use Rattle.field_monty.specs.Quartic.{Quartic}
 use Rattle.lookup.specs.declared.lookups.Lookups.{Lookups}
 use Rattle.lookup_debug.specs.BusTable.{group_row, row_of}
 use Rattle.lookup_debug.specs.Contributions.{Traced}

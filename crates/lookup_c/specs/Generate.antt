@@ -2,7 +2,7 @@
 use Rattle.std.specs.Prelude.{◌≡◌, ◌≢◌, ◌⊎◌, ◌*◌, ◌-◌, ◌^◌, ◌<◌, ℕ, List, [], Option, Some, length, min, slice_get}
 use Rattle.field.specs.Residue.{Residue}
 use Rattle.field.specs.Extension.{Extension}
-use Rattle.field.specs.Quartic.{Quartic}
+use Rattle.field_monty.specs.Quartic.{Quartic}
 use Rattle.matrix.specs.Matrix.{Matrix}
 use Rattle.air.specs.Traces.{AirTraces, HaveOneHeight, height_of, layout_of}
 use Rattle.lookup_model.specs.Denominators.{key_denominator}

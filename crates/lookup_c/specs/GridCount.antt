@@ -1,7 +1,7 @@
 -- What counting over a grid of challenges answers from tables of numbers.
 use Rattle.std.specs.Prelude.{◌<◌, ◌≡◌, ◌⊎◌, ℕ, List, Result, Ok, Err}
 use Rattle.field.specs.Residue.{Residue}
-use Rattle.field.specs.Quartic.{Quartic}
+use Rattle.field_monty.specs.Quartic.{Quartic}
 use Rattle.field.specs.Extension.{Extension}
 use Rattle.batch.specs.Grids.{CountsPlanGrid, PlanStaysWithinLinearBound, StaysWithinBound}
 use Rattle.batch.specs.Plans.{Plan}

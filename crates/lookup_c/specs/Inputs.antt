@@ -2,7 +2,7 @@
 use Rattle.std.specs.Prelude.{◌<◌, ◌≡◌, ◌⊎◌, ℕ, List, length, map}
 use Rattle.field.specs.Residue.{Residue}
 use Rattle.air.specs.Traces.{AirTraces, air_traces}
-use Rattle.field.specs.Quartic.{Quartic}
+use Rattle.field_monty.specs.Quartic.{Quartic}
 use Rattle.lookup_tables.specs.Numbers.{AreNumberGroupsBelow, IsFirstLargeNumberGroup, IsNumberGroup, quartic_of_numbers}
 use Rattle.lookup_tables.specs.Tables.{IsFirstBadTableRecord}
 use Rattle.lookup_tables.specs.TraceNumbers.{IsTraceFault, main_trace_of_numbers, preprocessed_trace_of_numbers, public_values_of_numbers}

@@ -1,7 +1,7 @@
 -- Elements and numbers that a call writes.
 use Rattle.std.specs.Prelude.{◌≡◌, ◌+◌, ◌*◌, ℕ, List, [], ◌∷◌, MatchOption, Option, None, Some, map}
 use Rattle.field.specs.Residue.{Residue}
-use Rattle.field.specs.Quartic.{Quartic}
+use Rattle.field_monty.specs.Quartic.{Quartic}
 use Rattle.lookup_model.specs.declared.types.LookupTerminal.{LookupTerminal}
 use Rattle.matrix.specs.Matrix.{Matrix}
 use Rattle.lookup_tables.specs.Numbers.{numbers_of}

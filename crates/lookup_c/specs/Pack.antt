@@ -2,7 +2,7 @@
 use Rattle.std.specs.Prelude.{◌≡◌, ◌⊎◌, ℕ, List, map}
 use Rattle.field.specs.Residue.{Residue}
 use Rattle.field.specs.Extension.{Extension}
-use Rattle.field.specs.Quartic.{Quartic}
+use Rattle.field_monty.specs.Quartic.{Quartic}
 use Rattle.lookup.specs.BusWidths.{HaveBusWidths, IsWidthRefusal}
 use Rattle.lookup.specs.Fewest.{AnswersDegree, HasFewestColumns}
 use Rattle.lookup.specs.KeptByPacking.{KeepsSent}

@@ -1,7 +1,7 @@
 -- One AIR of a planned batch, as calls read it.
 use Rattle.std.specs.Prelude.{◌≡◌, ◌≢◌, ◌⊎◌, ◌<◌, ◌≤◌, ◌*◌, ℕ, All, List, length}
 use Rattle.field.specs.Residue.{Residue}
-use Rattle.field.specs.Quartic.{Quartic}
+use Rattle.field_monty.specs.Quartic.{Quartic}
 use Rattle.field.specs.Ring.{Ring}
 use Rattle.expressions.specs.Faults.{HasFirstFault}
 use Rattle.lookup_model.specs.Challenges.{ChallengeTable, column_challenges}

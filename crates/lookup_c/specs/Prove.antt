@@ -2,7 +2,7 @@
 use Rattle.std.specs.Prelude.{◌<◌, ◌≡◌, ◌≢◌, ◌⊎◌, ℕ, List, Result, Ok, Err, length, map}
 use Rattle.std.specs.List.{flat_map}
 use Rattle.field.specs.Residue.{Residue}
-use Rattle.field.specs.Quartic.{Quartic}
+use Rattle.field_monty.specs.Quartic.{Quartic}
 use Rattle.lookup_model.specs.declared.witness.Witness.{Witness}
 use Rattle.field.specs.Extension.{Extension}
 use Rattle.batch.specs.Runs.{Proves, ProvesBalanced, ProvesRegular, ProvesSatisfied, Run}

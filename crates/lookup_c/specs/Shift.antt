@@ -1,7 +1,7 @@
 -- What a shift of rows answers from numbers.
 use Rattle.std.specs.Prelude.{◌<◌, ◌≡◌, ◌⊎◌, ℕ, false, true, List, length, map}
 use Rattle.field.specs.Residue.{Residue}
-use Rattle.field.specs.Quartic.{Quartic}
+use Rattle.field_monty.specs.Quartic.{Quartic}
 use Rattle.field.specs.Ring.{Ring}
 use Rattle.lookup_generation.specs.Ranges.{shifted}
 use Rattle.matrix.specs.Matrix.{Matrix}

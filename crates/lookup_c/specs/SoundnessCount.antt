@@ -2,7 +2,7 @@
 use Rattle.std.specs.Prelude.{◌<◌, ◌≡◌, ◌⊎◌, ◌-◌, ◌*◌, ◌/◌, ℕ, List, Result, Ok, Err}
 use Rattle.field.specs.Residue.{Residue}
 use Rattle.field.specs.Extension.{Extension}
-use Rattle.field.specs.Quartic.{Quartic}
+use Rattle.field_monty.specs.Quartic.{Quartic}
 use Rattle.lookup_model.specs.declared.count.SoundnessCount.{SoundnessCount}
 use Rattle.batch.specs.Plans.{Plan}
 use Rattle.batch.specs.SoundnessCounts.{CountsLinearly, CountsPlan, CountsSoundly}

@@ -2,7 +2,7 @@
 use Rattle.std.specs.Prelude.{◌≡◌, ◌⊎◌, List, Result, Ok, Err, ℕ}
 use Rattle.field.specs.Residue.{Residue}
 use Rattle.field.specs.Extension.{Extension}
-use Rattle.field.specs.Quartic.{Quartic}
+use Rattle.field_monty.specs.Quartic.{Quartic}
 use Rattle.batch.specs.Heights.{BoundsAllTraces, CountsHeights, most_planned}
 use Rattle.batch.specs.Plans.{Plan}
 use Rattle.batch.specs.declared.error.BatchError.{BatchError}

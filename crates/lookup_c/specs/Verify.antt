@@ -1,7 +1,7 @@
 -- What verifying answers from tables of numbers.
 use Rattle.std.specs.Prelude.{◌<◌, ◌≡◌, ◌⊎◌, ℕ, List, Result, Ok, Err}
 use Rattle.field.specs.Residue.{Residue}
-use Rattle.field.specs.Quartic.{Quartic}
+use Rattle.field_monty.specs.Quartic.{Quartic}
 use Rattle.lookup_model.specs.declared.witness.Witness.{Witness}
 use Rattle.field.specs.Extension.{Extension}
 use Rattle.batch.specs.Runs.{PassIsCounted, RefusesOnlyUnaccepted, Run, Verifies, VerifiesOnlyPlain}

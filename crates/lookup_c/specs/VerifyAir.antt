@@ -2,7 +2,7 @@
 use Rattle.std.specs.Prelude.{◌<◌, ◌≡◌, ◌≤◌, ◌⊎◌, ◌*◌, ℕ, List, length}
 use Rattle.field.specs.Residue.{Residue}
 use Rattle.field.specs.Extension.{Extension}
-use Rattle.field.specs.Quartic.{Quartic}
+use Rattle.field_monty.specs.Quartic.{Quartic}
 use Rattle.air.specs.Traces.{AirTraces}
 use Rattle.batch.specs.declared.error.BatchError.TheVariants.{Lookup as OfLookup}
 use Rattle.checker_witness.specs.Columns.{IsColumnsRefusal}

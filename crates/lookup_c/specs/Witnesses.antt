@@ -2,7 +2,7 @@
 use Rattle.std.specs.Prelude.{◌<◌, ◌≡◌, ◌≢◌, ◌⊎◌, ◌==◌, if◌then◌else◌, ℕ, All, false, true, List, Option, None, Some, length, map}
 use Rattle.field.specs.Residue.{Residue}
 use Rattle.expressions.specs.Faults.{HasFirstFault}
-use Rattle.field.specs.Quartic.{Quartic}
+use Rattle.field_monty.specs.Quartic.{Quartic}
 use Rattle.matrix.specs.Matrix.{Matrix}
 use Rattle.lookup_model.specs.declared.witness.Witness.{Witness}
 use Rattle.lookup_model.specs.declared.types.LookupTerminal.{LookupTerminal}

@@ -15,7 +15,7 @@ ghost use Rattle.lookup_c.specs.Inputs.{view_of_read};
 use crate::fault::Fault;
 use crate::inputs::{lookups_of, traces_of};
 use batch::{BatchError, BatchPlan, BatchTrace};
-use field::{MontyField31, QuarticParameters};
+use field_monty::{MontyField31, QuarticParameters};
 use lookup::Lookups;
 use lookup_tables::{ReadTraces, Tables, Traces};
 use std::alloc::{AllocError, Global};

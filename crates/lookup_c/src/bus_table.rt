@@ -1,13 +1,14 @@
 //! The call that tells what each group sends and receives.
 ghost use Rattle.std.specs.Prelude.{◌≡◌, ◌≢◌};
-ghost use Rattle.field.specs.laws.BabyBear.{baby_bear_positive};
+ghost use Rattle.field_monty.specs.laws.BabyBear.{baby_bear_positive};
 ghost use Rattle.lookup_c.specs.DebugNumbers.{AnswersTelling};
 ghost use Rattle.lookup_c.specs.declared.debug_numbers.Asked.TheVariants.{Table};
 
 use crate::debug_numbers::{Asked, answer_debug_numbers};
 use crate::refusal::{Refusal, accept, refuse};
 use crate::written_tables::write_items;
-use field::{BabyBear, BabyBear4, BabyBearParameters, Over};
+use field::Over;
+use field_monty::{BabyBear, BabyBear4, BabyBearParameters};
 use lookup_tables::{Tables, Traces};
 use std::alloc::Global;
 

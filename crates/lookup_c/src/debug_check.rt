@@ -1,6 +1,6 @@
 //! The call that finds the first tuple that does not balance.
 ghost use Rattle.std.specs.Prelude.{◌≡◌, ◌⊎◌, MatchResult, length, map};
-ghost use Rattle.field.specs.laws.BabyBear.{baby_bear_positive};
+ghost use Rattle.field_monty.specs.laws.BabyBear.{baby_bear_positive};
 ghost use Rattle.lookup_debug.specs.Contributions.{AreFitting, IsTracedFitting, traced_of};
 ghost use Rattle.lookup_c.specs.DebugCheck.{AreDebugInstances, AreDebugSets, DebugChecksTables, DebugChecksTraced, IsDebugCheckRefusal, IsDebugMisfit, IsDebugMismatch, IsDebugSetsRefusal, IsFirstDebugMisfit, all_debug_traced, debug_traced};
 ghost use Rattle.lookup_c.specs.CallAnswers.{CallAnswers};
@@ -10,8 +10,9 @@ use crate::codes::Part;
 use crate::fault::Fault;
 use crate::refusal::{Refusal, accept, refuse};
 use expressions::AirLayout;
-use field::{
-    BabyBear, BabyBear4, BabyBearParameters, MontyField31, MontyQuartic, Over, QuarticParameters,
+use field::Over;
+use field_monty::{
+    BabyBear, BabyBear4, BabyBearParameters, MontyField31, MontyQuartic, QuarticParameters,
 };
 use lookup::debug_util::{LookupDebugInstance, LookupFault, check_lookups};
 use lookup::{Lookups, fits};

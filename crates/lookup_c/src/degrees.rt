@@ -10,7 +10,7 @@ use crate::batch_tables::set_of;
 use crate::codes::Part;
 use crate::fault::Fault;
 use crate::refusal::{Refusal, accept, refuse};
-use field::{BabyBearParameters, MontyField31, QuarticParameters};
+use field_monty::{BabyBearParameters, MontyField31, QuarticParameters};
 use lookup::Lookups;
 use lookup_model::constraint_degree;
 use lookup_tables::Tables;

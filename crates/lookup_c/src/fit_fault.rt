@@ -1,6 +1,6 @@
 //! The call that says why lookups do not fit the traces of their AIR.
 ghost use Rattle.std.specs.Prelude.{◌≡◌, ◌≢◌, MatchOption, MatchResult};
-ghost use Rattle.field.specs.laws.BabyBear.{baby_bear_positive};
+ghost use Rattle.field_monty.specs.laws.BabyBear.{baby_bear_positive};
 ghost use Rattle.lookup_debug.specs.Fits.{FitTraces, IsFitFault};
 ghost use Rattle.lookup_c.specs.CallAnswers.{CallAnswers};
 ghost use Rattle.lookup_c.specs.Inputs.{view_of_read};
@@ -11,7 +11,7 @@ use crate::fault::Fault;
 use crate::inputs::{lookups_of, traces_of};
 use crate::refusal::{Refusal, accept, refuse};
 use expressions::BaseEntry;
-use field::{BabyBearParameters, MontyField31, QuarticParameters};
+use field_monty::{BabyBearParameters, MontyField31, QuarticParameters};
 use lookup::Lookup;
 use lookup::debug_util::{FitFault, fit_fault};
 use lookup_tables::{ReadTraces, Tables, Traces};

@@ -1,7 +1,7 @@
 //! The call that generates the auxiliary trace of one AIR.
 ghost use Rattle.std.specs.Prelude.{◌≡◌, ◌≢◌, ◌≤◌, ◌*◌, MatchResult, length};
 ghost use Rattle.std.specs.Result.{OnErr};
-ghost use Rattle.field.specs.laws.BabyBear.{baby_bear_positive};
+ghost use Rattle.field_monty.specs.laws.BabyBear.{baby_bear_positive};
 ghost use Rattle.air.specs.Traces.{HaveOneHeight, traces_of};
 ghost use Rattle.lookup_c.specs.Generate.{AnswersGenerate, GenerateFits, HasFewChallenges, HasOtherGenerateRoom, IsGenerateRefusal, IsGenerateUnfit};
 ghost use Rattle.lookup_c.specs.Inputs.{view_of_read};
@@ -13,8 +13,9 @@ use crate::inputs::{list_of, lookups_of, traces_of};
 use crate::outputs::{Terminal, terminal_numbers, write_cells};
 use crate::refusal::{Refusal, accept, refuse};
 use expressions::AirLayout;
-use field::{
-    BabyBear, BabyBear4, BabyBearParameters, MontyField31, MontyQuartic, Over, QuarticParameters,
+use field::Over;
+use field_monty::{
+    BabyBear, BabyBear4, BabyBearParameters, MontyField31, MontyQuartic, QuarticParameters,
 };
 use lookup::{Lookup, LookupTerminal, fits};
 use lookup_generation::generate_permutation;

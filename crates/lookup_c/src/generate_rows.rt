@@ -1,7 +1,7 @@
 //! The call that generates a range of rows of the auxiliary trace of one AIR of a planned batch.
 ghost use Rattle.std.specs.Prelude.{◌≡◌, ◌≢◌, MatchResult, length};
 ghost use Rattle.std.specs.Result.{OnErr};
-ghost use Rattle.field.specs.laws.BabyBear.{baby_bear_positive};
+ghost use Rattle.field_monty.specs.laws.BabyBear.{baby_bear_positive};
 ghost use Rattle.lookup_c.specs.GenerateRows.{AnswersGenerateRows};
 ghost use Rattle.lookup_c.specs.internal.PlannedAirs.{GeneratesInPlan, IsGenerationRefusal, ResultOfGenerateRows};
 
@@ -13,8 +13,9 @@ use crate::planned_air::{InPlan, read_air};
 use crate::refusal::{Refusal, accept, refuse};
 use crate::rows::{Rows, range_of};
 use checker::generate_around;
-use field::{
-    BabyBear, BabyBear4, BabyBearParameters, MontyField31, MontyQuartic, Over, QuarticParameters,
+use field::Over;
+use field_monty::{
+    BabyBear, BabyBear4, BabyBearParameters, MontyField31, MontyQuartic, QuarticParameters,
 };
 use lookup_tables::{Tables, Traces, element_numbers};
 use matrix::RowMajorMatrix;

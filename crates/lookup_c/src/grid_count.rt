@@ -1,7 +1,7 @@
 //! The call that counts at how many pairs of challenges a batch is accepted.
 ghost use Rattle.std.specs.Prelude.{◌≡◌, ◌≢◌, MatchResult};
 ghost use Rattle.std.specs.Result.{OnErr};
-ghost use Rattle.field.specs.laws.BabyBear.{baby_bear_positive};
+ghost use Rattle.field_monty.specs.laws.BabyBear.{baby_bear_positive};
 ghost use Rattle.lookup_c.specs.GridCount.{AnswersGridCount, AreGridCountNumbers, GridCountOfTables, IsGridCountRefusal};
 ghost use Rattle.lookup_c.specs.internal.Batches.{ResultOfGridCount};
 
@@ -12,8 +12,9 @@ use crate::inputs::list_of;
 use crate::outputs::{Wide, halves, optional_halves};
 use crate::refusal::{Refusal, accept, refuse};
 use batch::GridCount;
-use field::{
-    BabyBear, BabyBear4, BabyBearParameters, MontyField31, MontyQuartic, Over, QuarticParameters,
+use field::Over;
+use field_monty::{
+    BabyBear, BabyBear4, BabyBearParameters, MontyField31, MontyQuartic, QuarticParameters,
 };
 use lookup_tables::Traces;
 use std::alloc::Global;

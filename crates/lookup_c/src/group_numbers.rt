@@ -3,7 +3,7 @@ ghost use Rattle.std.specs.Prelude.{◌≡◌, ◌++◌, IfOk, OnOk, map};
 ghost use Rattle.std.specs.List.{flat_map};
 ghost use Rattle.lookup_c.specs.GroupNumbers.{element_number, group_numbers, mismatch_numbers, name_numbers, place_numbers, table_numbers, tuple_numbers};
 
-use field::{MontyField31, MontyParameters};
+use field_monty::{MontyField31, MontyParameters};
 use lookup::debug_util::{BusGroup, GroupName, Mismatch, Place, UnbalancedTuple};
 use std::alloc::{AllocError, Global};
 

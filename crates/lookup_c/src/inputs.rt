@@ -6,7 +6,7 @@ ghost use Rattle.lookup_c.specs.Inputs.{AreInputElements, IsInputChallenge, IsIn
 
 use crate::codes::Part;
 use crate::fault::Fault;
-use field::{MontyField31, MontyQuartic, QuarticParameters};
+use field_monty::{MontyField31, MontyQuartic, QuarticParameters};
 use lookup::Lookup;
 use lookup_tables::{
     NumberFault, ReadTraces, TableFault, Tables, TraceFault, Traces, extension, extensions,

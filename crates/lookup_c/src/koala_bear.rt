@@ -3,7 +3,7 @@
 //! Each is the call of its name without `koala_bear`, with the same arrays, codes and texts, over numbers
 //! below this modulus.
 ghost use Rattle.std.specs.Prelude.{length, ◌≡◌, ◌≢◌};
-ghost use Rattle.field.specs.laws.KoalaBear.{koala_bear_positive};
+ghost use Rattle.field_monty.specs.laws.KoalaBear.{koala_bear_positive};
 ghost use Rattle.lookup_c.specs.CallAnswers.{CallAnswers};
 ghost use Rattle.lookup_c.specs.DebugCheck.{DebugChecksTables, IsDebugCheckRefusal};
 ghost use Rattle.lookup_c.specs.Degrees.{CallGivesDegrees, IsDegreesRefusal};
@@ -44,7 +44,8 @@ use crate::verify::answer_verify;
 use crate::verify_rows::answer_verify_rows;
 use crate::witness::AirWitness;
 use crate::written_tables::TableSizes;
-use field::{KoalaBear, KoalaBear4, KoalaBearParameters, Over, PrimeCharacteristicRing};
+use field::{Over, PrimeCharacteristicRing};
+use field_monty::{KoalaBear, KoalaBear4, KoalaBearParameters};
 use lookup_tables::{Node, Record, Span, Tables, Traces};
 use std::alloc::Global;
 

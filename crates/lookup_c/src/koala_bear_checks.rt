@@ -1,6 +1,6 @@
 //! The calls over `KoalaBear` that check one AIR, and that tell what the debug check finds.
 ghost use Rattle.std.specs.Prelude.{◌≡◌, ◌≢◌};
-ghost use Rattle.field.specs.laws.KoalaBear.{koala_bear_positive};
+ghost use Rattle.field_monty.specs.laws.KoalaBear.{koala_bear_positive};
 ghost use Rattle.lookup_c.specs.CallAnswers.{CallAnswers};
 ghost use Rattle.lookup_c.specs.DebugNumbers.{AnswersTelling};
 ghost use Rattle.lookup_c.specs.FitFault.{CallTellsFit, IsFitCallRefusal};
@@ -13,7 +13,8 @@ use crate::refusal::{Refusal, accept, refuse};
 use crate::verify_air::answer_verify_air;
 use crate::witness::AirWitness;
 use crate::written_tables::write_items;
-use field::{KoalaBear, KoalaBear4, KoalaBearParameters, Over};
+use field::Over;
+use field_monty::{KoalaBear, KoalaBear4, KoalaBearParameters};
 use lookup_tables::{Tables, Traces};
 use std::alloc::Global;
 

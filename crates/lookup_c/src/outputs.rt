@@ -8,7 +8,7 @@ ghost use Rattle.lookup_c.specs.Outputs.{IsOptionalWide, output_cells, wide_numb
 
 use crate::codes::Part;
 use crate::fault::Fault;
-use field::{MontyQuartic, QuarticParameters};
+use field_monty::{MontyQuartic, QuarticParameters};
 use lookup::LookupTerminal;
 use lookup_tables::element_numbers;
 use matrix::RowMajorMatrix;

@@ -10,8 +10,9 @@ use crate::batch_tables::set_of;
 use crate::fault::{Fault, lookup_fault};
 use crate::refusal::{Refusal, accept, refuse};
 use crate::written_tables::{TableSizes, room_of, tables_for, write_tables};
-use field::{
-    BabyBear, BabyBear4, BabyBearParameters, MontyField31, MontyQuartic, Over, QuarticParameters,
+use field::Over;
+use field_monty::{
+    BabyBear, BabyBear4, BabyBearParameters, MontyField31, MontyQuartic, QuarticParameters,
 };
 use lookup::{LogUpGadget, Lookups};
 use lookup_tables::{Node, Record, Span, Tables, Written};

@@ -12,7 +12,7 @@ use crate::codes::Part;
 use crate::fault::Fault;
 use crate::refusal::{Refusal, accept, refuse};
 use batch::BatchPlan;
-use field::{BabyBearParameters, MontyField31, QuarticParameters};
+use field_monty::{BabyBearParameters, MontyField31, QuarticParameters};
 use std::alloc::Global;
 
 /// The sizes of a plan.

@@ -1,7 +1,7 @@
 //! The call of a prover on the plan of a batch.
 ghost use Rattle.std.specs.Prelude.{◌≡◌, ◌≢◌, MatchResult, length};
 ghost use Rattle.std.specs.Result.{OnErr};
-ghost use Rattle.field.specs.laws.BabyBear.{baby_bear_positive};
+ghost use Rattle.field_monty.specs.laws.BabyBear.{baby_bear_positive};
 ghost use Rattle.lookup_c.specs.Prove.{AnswersProve, HasProveRoom, IsProveRefusal, IsProveRoomRefusal, ProvesTables};
 ghost use Rattle.lookup_c.specs.internal.Batches.{ResultOfProve, ResultOfProveInRoom};
 
@@ -12,8 +12,9 @@ use crate::inputs::challenge_of;
 use crate::outputs::{Terminal, cell_count, write_terminals, write_traces};
 use crate::refusal::{Refusal, accept, refuse};
 use checker::Witness;
-use field::{
-    BabyBear, BabyBear4, BabyBearParameters, MontyField31, MontyQuartic, Over, QuarticParameters,
+use field::Over;
+use field_monty::{
+    BabyBear, BabyBear4, BabyBearParameters, MontyField31, MontyQuartic, QuarticParameters,
 };
 use lookup_tables::Traces;
 use std::alloc::Global;

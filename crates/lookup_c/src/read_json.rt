@@ -9,7 +9,7 @@ ghost use Rattle.lookup_c.specs.internal.Packing.{ResultOfReadJson};
 use crate::fault::Fault;
 use crate::refusal::{Refusal, accept, refuse};
 use crate::written_tables::{TableSizes, room_of, tables_for, write_tables};
-use field::{BabyBearParameters, MontyField31, QuarticParameters};
+use field_monty::{BabyBearParameters, MontyField31, QuarticParameters};
 use lookup::{Lookup, Lookups};
 use lookup_tables::{Node, Record, Span, Written};
 use serde_json::error::Category;

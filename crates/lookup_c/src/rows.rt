@@ -6,7 +6,7 @@ ghost use Rattle.lookup_c.specs.Rows.{HasCallRowsAround, IsRowsRefusal, range_of
 use crate::codes::Part;
 use crate::fault::Fault;
 use checker::RowRange;
-use field::{MontyField31, QuarticParameters};
+use field_monty::{MontyField31, QuarticParameters};
 use lookup_tables::ReadTraces;
 
 /// The rows from `first` up to `end` of a trace that has `height` rows.

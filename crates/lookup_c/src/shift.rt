@@ -1,7 +1,7 @@
 //! The call that adds to the accumulators of rows, in place.
 ghost use Rattle.std.specs.Prelude.{◌≡◌, ◌≢◌, ◌/◌, ◌==◌, if◌then◌else◌, MatchOption, MatchResult, length};
 ghost use Rattle.std.specs.Result.{OnErr};
-ghost use Rattle.field.specs.laws.BabyBear.{baby_bear_positive};
+ghost use Rattle.field_monty.specs.laws.BabyBear.{baby_bear_positive};
 ghost use Rattle.matrix.specs.Matrix.{IsShaped};
 ghost use Rattle.lookup_tables.specs.Numbers.{AreNumberGroupsBelow, IsFirstLargeNumberGroup};
 ghost use Rattle.lookup_c.specs.Shift.{AnswersShift, IsShiftRefusal, ShiftsCells, shift_rows, shifted_cells};
@@ -10,9 +10,8 @@ ghost use Rattle.lookup_c.specs.internal.Shift.{AreShiftable};
 use crate::codes::Part;
 use crate::fault::Fault;
 use crate::refusal::{Refusal, accept, refuse};
-use field::{
-    BabyBear4, BabyBearParameters, MontyQuartic, PrimeCharacteristicRing, QuarticParameters,
-};
+use field::PrimeCharacteristicRing;
+use field_monty::{BabyBear4, BabyBearParameters, MontyQuartic, QuarticParameters};
 use lookup_tables::{element_numbers, extension, makes_rows};
 
 /// The index of the first cell that is no element, if there is one.

@@ -1,7 +1,7 @@
 //! The call that counts the messages of a batch.
 ghost use Rattle.std.specs.Prelude.{◌≡◌, ◌≢◌, MatchResult};
 ghost use Rattle.std.specs.Result.{OnErr};
-ghost use Rattle.field.specs.laws.BabyBear.{baby_bear_positive};
+ghost use Rattle.field_monty.specs.laws.BabyBear.{baby_bear_positive};
 ghost use Rattle.lookup_c.specs.SoundnessCount.{AnswersSoundnessCount, AreSoundnessCountNumbers, IsLinearCountBound, IsSoundnessCountRefusal, SoundnessCountIsNumbers, SoundnessCountOfTables};
 
 use crate::batch_tables::{Air, all_traces, plan_of, plan_traces};
@@ -9,8 +9,9 @@ use crate::fault::Fault;
 use crate::outputs::{Wide, halves, optional_halves};
 use crate::refusal::{Refusal, accept, refuse};
 use checker::SoundnessCount;
-use field::{
-    BabyBear, BabyBear4, BabyBearParameters, MontyField31, MontyQuartic, Over, QuarticParameters,
+use field::Over;
+use field_monty::{
+    BabyBear, BabyBear4, BabyBearParameters, MontyField31, MontyQuartic, QuarticParameters,
 };
 use lookup_tables::Traces;
 use std::alloc::Global;

@@ -9,8 +9,9 @@ use crate::fault::Fault;
 use crate::outputs::{Wide, halves, optional_halves};
 use crate::refusal::{Refusal, accept, refuse};
 use batch::HeightSoundness;
-use field::{
-    BabyBear, BabyBear4, BabyBearParameters, MontyField31, MontyQuartic, Over, QuarticParameters,
+use field::Over;
+use field_monty::{
+    BabyBear, BabyBear4, BabyBearParameters, MontyField31, MontyQuartic, QuarticParameters,
 };
 use std::alloc::Global;
 

@@ -1,7 +1,8 @@
 //! What holds of the numbers that calls write, on whatever threads they run.
 ghost use Rattle.lookup_c.specs.JoinedRows.{RowsJoin};
 
-use field::{MontyField31, MontyQuartic, Over, QuarticParameters};
+use field::Over;
+use field_monty::{MontyField31, MontyQuartic, QuarticParameters};
 use lookup_generation::ranges_join;
 
 /// Does nothing. Its contract says that ranges of rows join, wherever the calls run: what

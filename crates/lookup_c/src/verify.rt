@@ -1,5 +1,5 @@
 //! The call of a verifier on the plan of a batch.
-ghost use Rattle.field.specs.laws.BabyBear.{baby_bear_positive};
+ghost use Rattle.field_monty.specs.laws.BabyBear.{baby_bear_positive};
 ghost use Rattle.lookup_c.specs.Verify.{AnswersVerify};
 ghost use Rattle.lookup_c.specs.internal.Batches.{ResultOfVerify};
 
@@ -9,8 +9,9 @@ use crate::fault::Fault;
 use crate::inputs::challenge_of;
 use crate::refusal::{Refusal, accept, refuse};
 use crate::witness::{AirWitness, read_witness};
-use field::{
-    BabyBear, BabyBear4, BabyBearParameters, MontyField31, MontyQuartic, Over, QuarticParameters,
+use field::Over;
+use field_monty::{
+    BabyBear, BabyBear4, BabyBearParameters, MontyField31, MontyQuartic, QuarticParameters,
 };
 use lookup_tables::Traces;
 use std::alloc::Global;

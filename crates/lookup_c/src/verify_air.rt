@@ -1,6 +1,6 @@
 //! The call of a verifier on one AIR, under challenges that are given for each lookup.
 ghost use Rattle.std.specs.Prelude.{◌≤◌, ◌*◌, MatchResult, length};
-ghost use Rattle.field.specs.laws.BabyBear.{baby_bear_positive};
+ghost use Rattle.field_monty.specs.laws.BabyBear.{baby_bear_positive};
 ghost use Rattle.lookup_c.specs.Generate.{GenerateFits};
 ghost use Rattle.lookup_c.specs.Inputs.{view_of_read};
 ghost use Rattle.lookup_c.specs.VerifyAir.{AnswersVerifyAir};
@@ -15,8 +15,9 @@ use crate::refusal::{Refusal, accept, refuse};
 use crate::witness::{AirWitness, read_auxiliary, read_terminal};
 use batch::BatchError;
 use checker::check_columns;
-use field::{
-    BabyBear, BabyBear4, BabyBearParameters, MontyField31, MontyQuartic, Over, QuarticParameters,
+use field::Over;
+use field_monty::{
+    BabyBear, BabyBear4, BabyBearParameters, MontyField31, MontyQuartic, QuarticParameters,
 };
 use lookup::{Lookup, LookupError, LookupTerminal};
 use lookup_tables::{ReadTraces, Tables, Traces};

@@ -1,6 +1,6 @@
 //! The call of a verifier on a range of the rows of one AIR.
 ghost use Rattle.std.specs.Prelude.{◌≡◌};
-ghost use Rattle.field.specs.laws.BabyBear.{baby_bear_positive};
+ghost use Rattle.field_monty.specs.laws.BabyBear.{baby_bear_positive};
 ghost use Rattle.lookup_model.specs.Batches.Instances.{instance_of};
 ghost use Rattle.lookup_c.specs.Inputs.{view_of_read};
 ghost use Rattle.lookup_c.specs.VerifyRows.{AnswersVerifyRows, instance_with_ids};
@@ -14,8 +14,9 @@ use crate::rows::{Rows, range_of};
 use crate::witness::{AirWitness, read_auxiliary, read_terminal};
 use batch::BatchError;
 use checker::{BatchInstance, check_shape, rows_hold_around};
-use field::{
-    BabyBear, BabyBear4, BabyBearParameters, MontyField31, MontyQuartic, Over, QuarticParameters,
+use field::Over;
+use field_monty::{
+    BabyBear, BabyBear4, BabyBearParameters, MontyField31, MontyQuartic, QuarticParameters,
 };
 use lookup::LookupError;
 use lookup_tables::{Tables, Traces};

@@ -7,7 +7,7 @@ use crate::fault::Fault;
 use crate::inputs::list_of;
 use crate::outputs::Terminal;
 use checker::Witness;
-use field::{MontyQuartic, QuarticParameters};
+use field_monty::{MontyQuartic, QuarticParameters};
 use lookup::LookupTerminal;
 use lookup_tables::{extension, makes_rows};
 use matrix::RowMajorMatrix;

@@ -7,7 +7,7 @@ ghost use Rattle.lookup_c.specs.declared.fault.Fault.TheVariants.{Length};
 
 use crate::codes::Part;
 use crate::fault::Fault;
-use field::{MontyField31, QuarticParameters};
+use field_monty::{MontyField31, QuarticParameters};
 use lookup::Lookups;
 use lookup_tables::{Node, Record, Span, TableFault, Written, write_lookups};
 use std::alloc::Global;

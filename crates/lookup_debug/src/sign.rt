@@ -6,7 +6,8 @@ ghost use Rattle.field.specs.IntegersModulo7.{f7_positive};
 ghost use Rattle.goldilocks.specs.Goldilocks.{goldilocks_positive};
 ghost use Rattle.lookup_debug.specs.Signs.{is_negative, value_is};
 
-use field::{F2, F7, Field, MontyField31, MontyParameters, PrimeCharacteristicRing};
+use field::{F2, F7, Field, PrimeCharacteristicRing};
+use field_monty::{MontyField31, MontyParameters};
 use goldilocks::Goldilocks;
 
 /// A field whose elements have a sign: each of them is a whole number below the characteristic, and

@@ -2,7 +2,7 @@
 use Rattle.std.specs.Prelude.{◌≡◌, ◌≢◌, ◌⊎◌, ℕ, Bool, true, List, [], ◌∷◌, Result, Err, Ok}
 use Rattle.std.specs.declared.alloc.Global.{Global}
 use Rattle.std.specs.declared.string.String.{String}
-use Rattle.field.specs.Quartic.{Quartic}
+use Rattle.field_monty.specs.Quartic.{Quartic}
 use Rattle.field.specs.Residue.{Residue}
 use Rattle.field.specs.Ring.{of_nat}
 use Rattle.field_words.specs.Fields.{Fields}

@@ -2,7 +2,8 @@
 ghost use Rattle.std.specs.Prelude.{◌≡◌};
 ghost use Rattle.lookup_judge.specs.Bits.{challenges_of};
 
-use field::{F7, MontyField31, MontyParameters, PrimeCharacteristicRing};
+use field::{F7, PrimeCharacteristicRing};
+use field_monty::{MontyField31, MontyParameters};
 use goldilocks::Goldilocks;
 use lookup::debug_util::SignedField;
 use lookup_words::FieldName;

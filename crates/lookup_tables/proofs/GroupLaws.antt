@@ -6,7 +6,7 @@ use Rattle.std.proofs.lemmas.List.Elements.{All-append, All-cons, All-get_or, Al
 use Rattle.std.proofs.lemmas.Option.{get_or_from_slice_get}
 use Rattle.std.specs.List.{flat_map, slice_range}
 use Rattle.std.specs.Simd.{first_chunks}
-use Rattle.field.specs.Quartic.{Quartic}
+use Rattle.field_monty.specs.Quartic.{Quartic}
 use Rattle.field.specs.Residue.{Residue, residue_of}
 use Rattle.lookup_tables.specs.Numbers.{AreNumberGroupsBelow, quartic_of_numbers}
 use Rattle.lookup_tables.specs.internal.Numbers.{AreNumbersUpTo, IsNumberGroupUpTo}

@@ -1,6 +1,6 @@
 -- Numbers as elements modulo p, and elements as numbers.
 use Rattle.std.specs.Prelude.{◌≡◌, ◌<◌, ◌≤◌, ℕ, List, Some, length, map, slice_get, slice_index}
-use Rattle.field.specs.Quartic.{Quartic, coefficients_of}
+use Rattle.field_monty.specs.Quartic.{Quartic, coefficients_of}
 use Rattle.field.specs.Residue.{Residue, residue_of}
 
 -- the numbers of an element of the extension: its coefficients, lowest power first

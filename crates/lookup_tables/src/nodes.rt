@@ -7,7 +7,7 @@ ghost use Rattle.lookup_tables.specs.declared.nodes.NodeFault.TheVariants.{Memor
 ghost use Rattle.lookup_tables.specs.internal.Nodes.{is_leaf, is_negation, is_operation};
 
 use expressions::{BaseEntry, BaseLeaf, Expression, SymbolicExpression, SymbolicVariable};
-use field::{MontyField31, MontyParameters};
+use field_monty::{MontyField31, MontyParameters};
 use std::alloc::{AllocError, AllocFailed, Global};
 
 /// A node of an expression: a leaf, or an operation on the one or two expressions before it.

@@ -5,7 +5,7 @@ ghost use Rattle.lookup_tables.specs.Numbers.{AreNumberGroupsBelow, AreNumbersBe
 ghost use Rattle.lookup_tables.specs.declared.numbers.NumberFault.TheVariants.{Memory, Large};
 ghost use Rattle.lookup_tables.specs.internal.Numbers.{AreNumbersUpTo, IsNumberGroupUpTo};
 
-use field::{MontyField31, MontyParameters, MontyQuartic, QuarticParameters};
+use field_monty::{MontyField31, MontyParameters, MontyQuartic, QuarticParameters};
 use std::alloc::{AllocError, AllocFailed, Global};
 
 /// How many groups of four numbers are read at a time.

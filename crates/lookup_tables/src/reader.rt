@@ -9,7 +9,7 @@ ghost use Rattle.lookup_tables.specs.internal.Stack.{has_one, has_room, has_two,
 use crate::nodes::{Node, NodeFault, is_leaf, is_negation, is_operation, joined, leaf_of};
 use crate::part::Part;
 use expressions::{Expression, SymbolicExpression};
-use field::{MontyField31, MontyParameters};
+use field_monty::{MontyField31, MontyParameters};
 use std::alloc::Global;
 
 /// The deepest expression that is taken.

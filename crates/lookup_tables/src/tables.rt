@@ -8,7 +8,7 @@ ghost use Rattle.lookup_tables.specs.declared.tables.TableFault.TheVariants.{Mem
 use crate::nodes::{Node, NodeFault};
 use crate::reader::read_expressions;
 use expressions::SymbolicExpression;
-use field::{MontyField31, MontyParameters};
+use field_monty::{MontyField31, MontyParameters};
 use lookup_model::{Kind, Lookup};
 use std::alloc::{AllocError, AllocFailed, Global};
 use thiserror::Error;

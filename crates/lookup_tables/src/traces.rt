@@ -5,7 +5,7 @@ ghost use Rattle.lookup_tables.specs.TraceNumbers.{AreTraceNumbers, AreTracesOfN
 ghost use Rattle.lookup_tables.specs.declared.traces.TraceFault.TheVariants.{Memory};
 
 use crate::numbers::{NumberFault, elements};
-use field::{MontyField31, MontyParameters};
+use field_monty::{MontyField31, MontyParameters};
 use matrix::RowMajorMatrix;
 use std::alloc::{AllocError, AllocFailed, Global};
 use std::fmt;

@@ -13,7 +13,7 @@ use crate::nodes::Node;
 use crate::reader::MAX_DEPTH;
 use crate::tables::{MAX_NODES, Record, Span, TableFault};
 use expressions::{BaseEntry, BaseLeaf, SymbolicExpression};
-use field::{MontyField31, MontyParameters};
+use field_monty::{MontyField31, MontyParameters};
 use lookup_model::{Kind, Lookup};
 use std::alloc::{AllocError, Global};
 

@@ -4,8 +4,8 @@ ghost use Rattle.field.specs.IntegersModulo7.{f7_ring};
 
 use crate::trees::nodes;
 use field::{
-    BabyBear, BabyBear4, F2, F7, Field, InverseCount, batch_multiplicative_inverse,
-    batch_multiplicative_inverse_into, powers,
+    F2, F7, Field, InverseCount, batch_multiplicative_inverse, batch_multiplicative_inverse_into,
+    powers,
 };
 use gate_memory_builders::show::{Out, show};
 use std::alloc::Global;

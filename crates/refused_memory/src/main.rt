@@ -19,7 +19,8 @@ mod sets;
 mod texts;
 mod trees;
 
-use field::{BabyBear, BabyBear4, F7};
+use field::F7;
+use field_monty::{BabyBear, BabyBear4};
 use gate_memory_builders::records;
 use gate_memory_builders::show::Out;
 use std::alloc::Global;

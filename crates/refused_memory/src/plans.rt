@@ -2,7 +2,8 @@
 use crate::sets::set;
 use batch::{BatchError, BatchPlan, BatchTrace};
 use checker::Witness;
-use field::{BabyBear, BabyBear4, F7, PrimeCharacteristicRing};
+use field::{F7, PrimeCharacteristicRing};
+use field_monty::{BabyBear, BabyBear4};
 use gate_memory_builders::inputs::{
     BALANCED, LOOKUPS, UNBALANCED, UNEVEN, UNEVEN_LOCAL, alone, trace,
 };

@@ -1,6 +1,7 @@
 //! Texts that are written and read, and texts from outside.
 use crate::sets::set;
-use field::{BabyBear, BabyBear4, F7};
+use field::F7;
+use field_monty::{BabyBear, BabyBear4};
 use gate_memory_builders::inputs::{LOOKUPS, layout};
 use gate_memory_builders::show::{Out, input, show};
 use lookup::{IndexedDeclarations, IndexedLookups, Lookup, LookupTerminal, Lookups};

@@ -2,7 +2,7 @@
 ghost use Rattle.std.specs.Prelude.{◌≡◌};
 
 use expressions::{BaseEntry, BaseLeaf, Expression, SymbolicExpression, SymbolicVariable};
-use field::{BabyBear, BabyBear4, KoalaBear, KoalaBear4};
+use field_monty::{BabyBear, BabyBear4, KoalaBear, KoalaBear4};
 use lookup_model::{Kind, Lookup};
 use lookup_tables::{
     Node, NodeFault, NumberFault, ReadTraces, Record, Span, TableFault, Tables, TraceFault,

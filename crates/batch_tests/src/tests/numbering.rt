@@ -1,7 +1,8 @@
 //! The ids of plans.
 use super::{Shape, holds, plan, shaped};
 use batch::BatchPlan;
-use field::{BabyBear, F7};
+use field::F7;
+use field_monty::BabyBear;
 use lookup::{Lookup, Lookups};
 use std::alloc::Global;
 use std::process::Abort;

@@ -5,7 +5,8 @@ use checker::{
     ids_are_kept, ids_are_lawful, instances_fit, joint_soundness, linear_soundness,
     packing_keeps_batch, soundness_count, soundness_of_counts,
 };
-use field::{BabyBear, BabyBear4, ExtensionField, F2, F7, Field, PrimeCharacteristicRing};
+use field::{ExtensionField, F2, F7, Field, PrimeCharacteristicRing};
+use field_monty::{BabyBear, BabyBear4};
 use lookup::{LogUpGadget, Lookup, LookupError, Lookups};
 use std::alloc::Global;
 use std::process::Abort;

@@ -1,7 +1,8 @@
 //! Memories that `memory_check` accepts, and those that are refused, one for each refusal.
 
 use batch::BatchError;
-use field::{BabyBear, BabyBear4, PrimeCharacteristicRing};
+use field::PrimeCharacteristicRing;
+use field_monty::{BabyBear, BabyBear4};
 use lookup::LookupError;
 use matrix::RowMajorMatrix;
 use memory_check::{MemoryTraces, check_memory, memory_plan};

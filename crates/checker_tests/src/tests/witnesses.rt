@@ -2,7 +2,8 @@
 use super::{alone, cell, generate, group, holds, instance, list, range, rechecked, trace};
 use air::{Expression, SymbolicExpression};
 use checker::Witness;
-use field::{BabyBear, BabyBear4, ExtensionDomain, ExtensionField, Field, PrimeCharacteristicRing};
+use field::{ExtensionDomain, ExtensionField, Field, PrimeCharacteristicRing};
+use field_monty::{BabyBear, BabyBear4};
 use lookup::{Challenges, Lookup, LookupError, LookupTerminal};
 use matrix::RowMajorMatrix;
 use std::alloc::Global;

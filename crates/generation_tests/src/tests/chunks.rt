@@ -6,10 +6,8 @@ ghost use Rattle.lookup_model.specs.Records.{LookupsFit};
 use super::comparison::ranges;
 use super::{Made, are_numbers, are_zero, holds, local, range, trace};
 use air::{AirLayout, Traces};
-use field::{
-    BabyBear, BabyBear4, ExtensionDomain, F7, Field, InverseCount, Inverter,
-    PrimeCharacteristicRing,
-};
+use field::{ExtensionDomain, F7, Field, InverseCount, Inverter, PrimeCharacteristicRing};
+use field_monty::{BabyBear, BabyBear4};
 use lookup::{LogUpGadget, Lookup, LookupError, LookupTerminal, fits};
 use matrix::RowMajorMatrix;
 use std::alloc::Global;

@@ -1,7 +1,8 @@
 //! Challenges, generated traces and sums of terminals, at values calculated by hand.
 use super::{Made, are_numbers, generate, holds, pair, single, trace};
 use air::AirLayout;
-use field::{BabyBear, BabyBear4, ExtensionField, F7, PrimeCharacteristicRing};
+use field::{ExtensionField, F7, PrimeCharacteristicRing};
+use field_monty::{BabyBear, BabyBear4};
 use lookup::{
     Challenges, Kind, LogUpGadget, LookupError, LookupProtocol, LookupTerminal, TraceWindow,
     indexed, logup, protocol, symbolic, traits,

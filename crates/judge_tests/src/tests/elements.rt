@@ -1,7 +1,8 @@
 //! What texts say over a field.
 use super::holds;
 use expressions::{BaseEntry, BaseLeaf, SymbolicExpression};
-use field::{BabyBear, BabyBear4, F7, PrimeCharacteristicRing};
+use field::{F7, PrimeCharacteristicRing};
+use field_monty::{BabyBear, BabyBear4};
 use field_words::{Challenge, elements_of, number};
 use goldilocks::{Goldilocks, Goldilocks2};
 use lookup_elements::{expression_of, has_whole_rows, lookups_over, matrix_of};

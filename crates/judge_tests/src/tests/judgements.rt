@@ -1,6 +1,6 @@
 //! Batches, judged.
 use super::holds;
-use field::{BabyBear, BabyBear4};
+use field_monty::{BabyBear, BabyBear4};
 use lookup_files::{NamedFile, read_shapes, read_tables};
 use lookup_judge::{PlanReport, Report, judge, judge_plan};
 use lookup_text::{BatchText, read_batch};

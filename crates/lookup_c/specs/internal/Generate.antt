@@ -1,7 +1,7 @@
 -- Generation over traces and tables that were read, and what it gives as numbers.
 use Rattle.std.specs.Prelude.{◌<◌, ◌≡◌, ℕ, List, MatchResult, Result}
 use Rattle.field.specs.Extension.{Extension}
-use Rattle.field.specs.Quartic.{Quartic}
+use Rattle.field_monty.specs.Quartic.{Quartic}
 use Rattle.field.specs.Residue.{Residue}
 use Rattle.lookup_model.specs.declared.types.Lookup.{Lookup}
 use Rattle.lookup_tables.specs.declared.tables.Tables.{Tables}

@@ -1,7 +1,7 @@
 -- The results of calls that write tables into a caller's arrays.
 use Rattle.std.specs.Prelude.{ℕ, List, MatchResult, Result}
 use Rattle.field.specs.Extension.{Extension}
-use Rattle.field.specs.Quartic.{Quartic}
+use Rattle.field_monty.specs.Quartic.{Quartic}
 use Rattle.field.specs.Residue.{Residue}
 use Rattle.lookup_tables.specs.declared.tables.Tables.{Tables}
 use Rattle.lookup_tables.specs.declared.writer.Written.{Written}

@@ -2,7 +2,7 @@
 use Rattle.std.specs.Prelude.{◌<◌, ◌≡◌, ℕ, List, MatchResult, Result}
 use Rattle.field.specs.Residue.{Residue}
 use Rattle.field.specs.Extension.{Extension}
-use Rattle.field.specs.Quartic.{Quartic}
+use Rattle.field_monty.specs.Quartic.{Quartic}
 use Rattle.field.specs.Ring.{Ring}
 use Rattle.matrix.specs.Matrix.{Matrix}
 use Rattle.lookup_tables.specs.declared.tables.Tables.{Tables}

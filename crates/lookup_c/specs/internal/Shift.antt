@@ -1,7 +1,7 @@
 -- Numbers that a shift takes.
 use Rattle.std.specs.Prelude.{◌<◌, ◌≡◌, ℕ, List, length, true}
 use Rattle.field.specs.Residue.{Residue}
-use Rattle.field.specs.Quartic.{Quartic}
+use Rattle.field_monty.specs.Quartic.{Quartic}
 use Rattle.lookup_tables.specs.Numbers.{AreNumberGroupsBelow, IsNumberGroup, quartic_of_numbers}
 use Rattle.lookup_tables.specs.TraceNumbers.{makes_rows}
 

@@ -1,7 +1,7 @@
 -- A check of one AIR, over what was read of its traces and of a witness.
 use Rattle.std.specs.Prelude.{◌<◌, ℕ, List, MatchResult, Result}
 use Rattle.field.specs.Extension.{Extension}
-use Rattle.field.specs.Quartic.{Quartic}
+use Rattle.field_monty.specs.Quartic.{Quartic}
 use Rattle.field.specs.Residue.{Residue}
 use Rattle.lookup_model.specs.Witness.{IsSatisfied, TerminalIsSum}
 use Rattle.lookup_model.specs.declared.types.Lookup.{Lookup}

@@ -1,7 +1,8 @@
 //! The table of groups, and the first mismatch as data. The expected texts are reckoned by hand.
 use super::debug::{has_fitting_lookups, has_one_height, instance, on_bus, with_count};
 use super::{alone, holds, trace};
-use field::{BabyBear, F2, F7, Field, KoalaBear, PrimeCharacteristicRing};
+use field::{F2, F7, Field, PrimeCharacteristicRing};
+use field_monty::{BabyBear, KoalaBear};
 use goldilocks::Goldilocks;
 use lookup::Lookup;
 use lookup::debug_util::{

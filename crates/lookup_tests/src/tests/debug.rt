@@ -7,7 +7,8 @@ ghost use Rattle.matrix.specs.Matrix.{height};
 
 use super::{alone, cell, list, local, one, single, text, trace};
 use air::{AirLayout, BaseEntry, BaseLeaf, Expression, SymbolicExpression, SymbolicVariable};
-use field::{BabyBear, F7, Field, PrimeCharacteristicRing};
+use field::{F7, Field, PrimeCharacteristicRing};
+use field_monty::BabyBear;
 use lookup::debug_util::{Location, LookupDebugInstance, LookupFault, check_lookups};
 use lookup::{Kind, Lookup, fits};
 use matrix::RowMajorMatrix;

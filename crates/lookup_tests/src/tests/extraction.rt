@@ -9,7 +9,8 @@ use air::{
     Air, AirBuilder, AirError, AirLayout, BaseAir, BaseEntry, BaseLeaf, Expression,
     SymbolicExpression, current_cell, current_cells,
 };
-use field::{BabyBear, BabyBear4, ExtensionField, F7, Field, PrimeCharacteristicRing};
+use field::{ExtensionField, F7, Field, PrimeCharacteristicRing};
+use field_monty::{BabyBear, BabyBear4};
 use lookup::{
     Count, InteractionBuilder, Lookup, LookupBus, LookupError, Lookups, assert_uniform_tuple_width,
 };

@@ -1,6 +1,7 @@
 //! One width for all tuples of a bus, and the bound on weights times heights, over all AIRs.
 use super::{cell, holds, list, local, single, text};
-use field::{BabyBear, F7, Field};
+use field::{F7, Field};
+use field_monty::BabyBear;
 use lookup::{
     Kind, Lookup, LookupError, Lookups, check_bus_widths, check_multiplicity_height_bound,
     height_law,

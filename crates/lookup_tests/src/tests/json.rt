@@ -2,7 +2,8 @@
 //! object of its fields, a variant without data its name, one with data an object of one member.
 use super::{cell, holds, list, single, text};
 use air::{Expression, SymbolicExpression};
-use field::{BabyBear, F7};
+use field::F7;
+use field_monty::BabyBear;
 use lookup::{Kind, Lookup, LookupTerminal, Lookups};
 use serde_json::error::Category;
 use std::alloc::Global;

@@ -3,7 +3,8 @@ ghost use Rattle.std.specs.Prelude.{◌≡◌};
 
 use super::{Tree, constant, has_value, holds};
 use air::Expression;
-use field::{BabyBear, F7, Field};
+use field::{F7, Field};
+use field_monty::BabyBear;
 use lookup_record::Count;
 use std::process::Abort;
 

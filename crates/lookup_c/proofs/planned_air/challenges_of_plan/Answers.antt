@@ -1,5 +1,5 @@
 use Rattle.std.proofs.Common.{◌∙◌, sym, arith}
-use Rattle.field.specs.Quartic.{quartic_residue_ring}
+use Rattle.field_monty.specs.Quartic.{quartic_residue_ring}
 use Rattle.batch.proofs.MadeTables.{made_challenges}
 use Rattle.lookup_c.proofs.planned_air.challenges_of_plan.Goals as goal
 

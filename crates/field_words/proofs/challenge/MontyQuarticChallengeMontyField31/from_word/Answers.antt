@@ -1,6 +1,6 @@
 use Rattle.std.proofs.Common.{◌≡◌, ◌<◌, ◌==◌, [], ◌∷◌, ℕ, List, Some, ap, arith, length, map, refl, subst, sym, ◌∙◌}
 use Rattle.std.specs.List.{slice_split}
-use Rattle.field.specs.Quartic.{coefficients_of}
+use Rattle.field_monty.specs.Quartic.{coefficients_of}
 use Rattle.field_words.specs.Words.{WritesNumbers, number_bound}
 use Rattle.field_words.proofs.WordLaws.{four_again, written_again}
 use Rattle.field_words.proofs.challenge.MontyQuarticChallengeMontyField31.from_word.Goals as goal

@@ -1,0 +1,9 @@
+pub mod LaneCases
+pub mod LaneDifference
+pub mod LaneLists
+pub mod LaneProducts
+pub mod LaneSums
+pub mod Montgomery
+pub mod QuarticLanes
+pub mod QuarticProduct
+pub mod StoredTests

@@ -1,0 +1,5 @@
+use Rattle.field_monty.specs.laws.Quartic.{quartic_same}
+use Rattle.field_monty.proofs.monty_quartic.MontyQuarticPrimeCharacteristicRing.ONE.Goals as goal
+
+pub returns : goal.returns
+returns g c = quartic_same _ _ c.ONE.ensures c.ZERO.ensures c.ZERO-2.ensures c.ZERO-3.ensures

@@ -1,0 +1,4 @@
+pub mod Quartic
+pub mod Montgomery
+pub mod laws
+pub mod internal
