@@ -2,9 +2,9 @@
 use Rattle.std.proofs.Common.{◌≡◌, ◌++◌, ◌+◌, ◌<◌, ◌≤◌, ℕ, suc, List, [], ◌∷◌, ap, refl, sym, ◌∙◌, subst, subst₂, drop, get_or, length, map}
 use Rattle.std.proofs.lemmas.List.{append-nil, append_assoc, drop-map, drop_all, drop_more}
 use Rattle.lookup_debug.specs.Contributions.{Traced}
-use Rattle.lookup_files.specs.Shapes.{Shape}
-use Rattle.lookup_files.specs.Tables.{TablesOf}
-use Rattle.lookup_names.specs.Lookups.{Said}
+use Rattle.language_meaning.specs.Shapes.{Shape}
+use Rattle.language_meaning.specs.Tables.{TablesOf}
+use Rattle.language_meaning.specs.Lookups.{Said}
 use Rattle.lookup_text.specs.Batches.{Air, Section}
 use Rattle.lookup_judge.specs.Said.{AreSaid, IsSaid, SayOver, SaysOver}
 

@@ -5,14 +5,14 @@ use Rattle.std.specs.List.{AllZip}
 use Rattle.batch.specs.declared.error.BatchError.{BatchError}
 use Rattle.batch.specs.declared.error.BatchError.TheVariants as batch
 use Rattle.lookup_debug.specs.Contributions.{Traced}
-use Rattle.lookup_files.specs.Shapes.{Shape}
-use Rattle.lookup_files.specs.Tables.{TablesOf}
-use Rattle.lookup_names.specs.Faults.{Fails}
-use Rattle.lookup_names.specs.Lookups.{Said}
-use Rattle.lookup_names.specs.declared.fault.NameFault.{NameFault}
-use Rattle.lookup_names.specs.declared.fault.NameFault.TheVariants as faults
-use Rattle.lookup_names.specs.declared.fault.NameRefusal.{NameRefusal}
-use Rattle.lookup_elements.specs.Traces.{HasWholeRows}
+use Rattle.language_meaning.specs.Shapes.{Shape}
+use Rattle.language_meaning.specs.Tables.{TablesOf}
+use Rattle.language_meaning.specs.Faults.{Fails}
+use Rattle.language_meaning.specs.Lookups.{Said}
+use Rattle.language_meaning.specs.declared.name_fault.NameFault.{NameFault}
+use Rattle.language_meaning.specs.declared.name_fault.NameFault.TheVariants as faults
+use Rattle.language_meaning.specs.declared.name_fault.NameRefusal.{NameRefusal}
+use Rattle.language_meaning.specs.Traces.{HasWholeRows}
 use Rattle.lookup_text.specs.Batches.{Air, Section}
 use Rattle.lookup_text.specs.Tables.{table_of}
 use Rattle.lookup_text.specs.declared.table.Table.{Table}

@@ -7,7 +7,7 @@ use Rattle.batch.specs.Traces.{view_of}
 use Rattle.batch.specs.declared.trace.BatchTrace.{BatchTrace}
 use Rattle.field_words.specs.Fields.{Fields}
 use Rattle.lookup_debug.specs.Contributions.{Traced}
-use Rattle.lookup_files.specs.Files.{File}
+use Rattle.language_meaning.specs.Files.{File}
 use Rattle.lookup_model.specs.Batches.Grid.{IsNumberOf, grid}
 use Rattle.lookup_model.specs.Batches.Witnesses.{HasOneOfEach, IsAccepted, results_of}
 use Rattle.lookup_model.specs.declared.witness.Witness.{Witness}

@@ -1,6 +1,6 @@
 -- From the refusal of a step to that of a run.
 use Rattle.std.proofs.Common.{◌≡◌, ◌⊎◌, inl, inr, ℕ, List, Result, Ok}
-use Rattle.lookup_files.specs.declared.fault.TableRefusal.{TableRefusal}
+use Rattle.language_meaning.specs.declared.table_fault.TableRefusal.{TableRefusal}
 use Rattle.lookup_text.specs.Batches.{Section, batch_at}
 use Rattle.lookup_judge.specs.RunRefusals.{IsReadingRefused}
 use Rattle.lookup_judge.specs.declared.fault.JudgeFault.{JudgeFault}

@@ -3,10 +3,10 @@ use Rattle.std.proofs.Common.{Bool, true, false, ◌≡◌, ◌<◌, ◌+◌, �
 use Rattle.std.proofs.lemmas.List.{length-map}
 use Rattle.std.specs.List.{AllByRecursion, AllZip}
 use Rattle.lookup_debug.specs.Contributions.{Traced}
-use Rattle.lookup_elements.specs.Columns.{outlines_in}
-use Rattle.lookup_elements.specs.Expressions.{tree_in}
-use Rattle.lookup_files.specs.Shapes.{Shape, column_names}
-use Rattle.lookup_files.specs.Tables.{TablesOf}
+use Rattle.language_meaning.specs.Columns.{outlines_in}
+use Rattle.language_meaning.specs.Expressions.{tree_in}
+use Rattle.language_meaning.specs.Shapes.{Shape, column_names}
+use Rattle.language_meaning.specs.Tables.{TablesOf}
 use Rattle.lookup_model.specs.Outline.{outline_of}
 use Rattle.lookup_model.specs.declared.types.Lookup.{Lookup}
 use Rattle.lookup_judge.specs.Found.{sized_of, sized_over}
@@ -17,11 +17,11 @@ use Rattle.lookup_text.specs.Batches.{Air, Section}
 use Rattle.lookup_text.specs.Items.{Item, Part, Placed}
 use Rattle.lookup_text.specs.Items as items
 use Rattle.lookup_text.specs.Messages.{Message}
-use Rattle.lookup_names.specs.declared.fault.NameRefusal.{NameRefusal}
-use Rattle.lookup_names.specs.Faults.{◌>>=◌}
-use Rattle.lookup_names.specs.Lookups.{Addition, Column, Said, SentPart, addition, addition_at, column_alone, column_together, defined_by, defines, message_on, names_after, new_name, nothing, part_on, parts_on, publics_after, publishes, said_after, said_by_items, sends}
-use Rattle.lookup_names.specs.Room.{InRoom}
-use Rattle.lookup_names.specs.Scopes.{Names}
+use Rattle.language_meaning.specs.declared.name_fault.NameRefusal.{NameRefusal}
+use Rattle.language_meaning.specs.Faults.{◌>>=◌}
+use Rattle.language_meaning.specs.Lookups.{Addition, Column, Said, SentPart, addition, addition_at, column_alone, column_together, defined_by, defines, message_on, names_after, new_name, nothing, part_on, parts_on, publics_after, publishes, said_after, said_by_items, sends}
+use Rattle.language_meaning.specs.Room.{InRoom}
+use Rattle.language_meaning.specs.Scopes.{Names}
 
 -- a lookup has a message
 abbrev pub HasParts : Column → Type 0

@@ -7,18 +7,18 @@ use Rattle.field.specs.Ring.{Ring, of_nat}
 use Rattle.lookup_debug.specs.Contributions.{Traced}
 use Rattle.lookup_debug.specs.Fits.{IsFitFault}
 use Rattle.lookup_debug.specs.declared.fit.FitFault.{FitFault}
-use Rattle.lookup_elements.specs.Columns.{IsFirstColumnRefusal}
-use Rattle.lookup_elements.specs.declared.fault.ElementRefusal.{ElementRefusal}
-use Rattle.lookup_files.specs.Shapes.{Shape, column_names}
-use Rattle.lookup_files.specs.Tables.{TablesOf}
+use Rattle.language_meaning.specs.Columns.{IsFirstColumnRefusal}
+use Rattle.language_meaning.specs.declared.element_fault.ElementRefusal.{ElementRefusal}
+use Rattle.language_meaning.specs.Shapes.{Shape, column_names}
+use Rattle.language_meaning.specs.Tables.{TablesOf}
 use Rattle.lookup_model.specs.LookupDegree.{IsDegree, lookup_degree}
 use Rattle.lookup_model.specs.Outline.{fields_of, outline_of}
 use Rattle.lookup_model.specs.declared.count.SoundnessCount.{SoundnessCount}
 use Rattle.lookup_model.specs.declared.error.LookupError.{LookupError}
 use Rattle.lookup_model.specs.declared.types.Lookup.{Lookup}
-use Rattle.lookup_names.specs.Buses.{distinct_buses}
-use Rattle.lookup_names.specs.Lookups.{Said}
-use Rattle.lookup_names.specs.declared.fault.NameRefusal.{NameRefusal}
+use Rattle.language_meaning.specs.Buses.{distinct_buses}
+use Rattle.language_meaning.specs.Lookups.{Said}
+use Rattle.language_meaning.specs.declared.name_fault.NameRefusal.{NameRefusal}
 use Rattle.lookup_text.specs.Batches.{Air, Section}
 use Rattle.lookup.specs.Fewest.{AnswersDegree}
 use Rattle.lookup.specs.BusWidths.{HaveBusWidths, IsWidthRefusal}

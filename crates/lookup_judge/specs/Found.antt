@@ -4,7 +4,7 @@ use Rattle.std.specs.List.{AllZip, sum_by, zip}
 use Rattle.field.specs.Extension.{Extension}
 use Rattle.field.specs.Ring.{Ring}
 use Rattle.air.specs.Traces.{height_of}
-use Rattle.lookup_files.specs.Shapes.{Shape}
+use Rattle.language_meaning.specs.Shapes.{Shape}
 use Rattle.lookup_model.specs.Batches.Counts.{AreCounts}
 use Rattle.lookup_model.specs.Batches.Linear.{IsLinearlySound}
 use Rattle.lookup_model.specs.Batches.Messages.{AreFlagsLawful}

@@ -2,12 +2,12 @@
 use Rattle.std.specs.Prelude.{ℕ}
 use Rattle.batch.specs.declared.error.BatchError.{BatchError}
 use Rattle.batch.specs.declared.error.BatchError.TheVariants as batch
-use Rattle.lookup_elements.specs.declared.fault.ElementFault.{ElementFault}
-use Rattle.lookup_elements.specs.declared.fault.ElementFault.TheVariants as elements
+use Rattle.language_meaning.specs.declared.element_fault.ElementFault.{ElementFault}
+use Rattle.language_meaning.specs.declared.element_fault.ElementFault.TheVariants as elements
 use Rattle.lookup_model.specs.declared.error.LookupError.{LookupError}
 use Rattle.lookup_model.specs.declared.error.LookupError.TheVariants as lookup
-use Rattle.lookup_names.specs.declared.fault.NameFault.{NameFault}
-use Rattle.lookup_names.specs.declared.fault.NameFault.TheVariants as names
+use Rattle.language_meaning.specs.declared.name_fault.NameFault.{NameFault}
+use Rattle.language_meaning.specs.declared.name_fault.NameFault.TheVariants as names
 use Rattle.lookup_judge.specs.declared.fault.JudgeFault.{JudgeFault}
 use Rattle.lookup_judge.specs.declared.fault.JudgeFault.TheVariants.{Batch, Element, Lookups, Memory, Name}
 

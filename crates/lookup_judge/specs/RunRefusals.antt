@@ -9,11 +9,11 @@ use Rattle.field_words.specs.Fields.{Fields}
 use Rattle.goldilocks.specs.Quadratic.{Quadratic}
 use Rattle.lookup_text.specs.Batches.{Section, batch_at}
 use Rattle.lookup_text.specs.declared.fault.Fault.{Fault}
-use Rattle.lookup_files.specs.Files.{File}
-use Rattle.lookup_files.specs.Shapes.{all_shapes}
-use Rattle.lookup_files.specs.Tables.{all_tables}
-use Rattle.lookup_files.specs.declared.fault.TableRefusal.{TableRefusal}
-use Rattle.lookup_names.specs.Lookups.{Said}
+use Rattle.language_meaning.specs.Files.{File}
+use Rattle.language_meaning.specs.Shapes.{all_shapes}
+use Rattle.language_meaning.specs.Tables.{all_tables}
+use Rattle.language_meaning.specs.declared.table_fault.TableRefusal.{TableRefusal}
+use Rattle.language_meaning.specs.Lookups.{Said}
 use Rattle.lookup_words.specs.Line.{HasFieldNames, Names, line_app}
 use Rattle.lookup_words.specs.Words.{IsAsked, IsRefused}
 use Rattle.lookup_words.specs.declared.refusal.WordsRefusal.TheVariants as of_words

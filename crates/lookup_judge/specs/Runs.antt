@@ -12,15 +12,15 @@ use Rattle.goldilocks.specs.Quadratic.{Quadratic}
 use Rattle.lookup_debug.specs.Contributions.{Traced}
 use Rattle.lookup_debug.specs.Mismatch.{AllBalance}
 use Rattle.lookup_text.specs.Batches.{Section, batch_at}
-use Rattle.lookup_files.specs.Files.{File}
-use Rattle.lookup_files.specs.Shapes.{Shape, all_shapes}
-use Rattle.lookup_files.specs.Tables.{TablesOf, all_tables}
+use Rattle.language_meaning.specs.Files.{File}
+use Rattle.language_meaning.specs.Shapes.{Shape, all_shapes}
+use Rattle.language_meaning.specs.Tables.{TablesOf, all_tables}
 use Rattle.lookup_model.specs.Batches.Counts.{IsAccepting}
 use Rattle.lookup_model.specs.Batches.Witnesses.{HasOneOfEach, IsAccepted, results_of}
 use Rattle.lookup_model.specs.declared.types.Lookup.{Lookup}
 use Rattle.lookup_model.specs.declared.witness.Witness.{Witness}
-use Rattle.lookup_names.specs.Buses.{distinct_buses}
-use Rattle.lookup_names.specs.Lookups.{Said}
+use Rattle.language_meaning.specs.Buses.{distinct_buses}
+use Rattle.language_meaning.specs.Lookups.{Said}
 use Rattle.lookup_words.specs.Line.{HasFieldNames, Names, line_app}
 use Rattle.lookup_words.specs.Words.{IsAsked, IsRefused}
 use Rattle.lookup_words.specs.declared.refusal.WordsRefusal.TheVariants.{Help}

@@ -3,15 +3,15 @@ use Rattle.std.specs.Prelude.{◌≡◌, ℕ, List, [], ◌∷◌, Option, None,
 use Rattle.air.specs.Traces.{AirTraces, air_traces}
 use Rattle.lookup_debug.specs.Contributions.{Traced}
 use Rattle.lookup_debug.specs.Fits.{FitTraces}
-use Rattle.lookup_elements.specs.Columns.{outlines_in}
-use Rattle.lookup_elements.specs.Traces.{HasWholeRows}
-use Rattle.lookup_files.specs.Shapes.{Shape, column_names}
-use Rattle.lookup_files.specs.Tables.{TablesOf}
+use Rattle.language_meaning.specs.Columns.{outlines_in}
+use Rattle.language_meaning.specs.Traces.{HasWholeRows}
+use Rattle.language_meaning.specs.Shapes.{Shape, column_names}
+use Rattle.language_meaning.specs.Tables.{TablesOf}
 use Rattle.lookup_model.specs.Outline.{outline_of}
 use Rattle.lookup_model.specs.declared.types.Lookup.{Lookup}
-use Rattle.lookup_names.specs.Lookups.{Said, said_by_items}
-use Rattle.lookup_names.specs.declared.fault.NameRefusal.{NameRefusal}
-use Rattle.lookup_names.specs.Scopes.{Names}
+use Rattle.language_meaning.specs.Lookups.{Said, said_by_items}
+use Rattle.language_meaning.specs.declared.name_fault.NameRefusal.{NameRefusal}
+use Rattle.language_meaning.specs.Scopes.{Names}
 use Rattle.lookup_text.specs.Batches.{Air, Section, bus, air}
 use Rattle.lookup_text.specs.Tables.{Numbers}
 use Rattle.matrix.specs.Matrix.{Matrix}

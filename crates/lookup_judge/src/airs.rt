@@ -3,23 +3,23 @@ ghost use Rattle.std.specs.Prelude.{◌≡◌, ◌⊎◌, IfErr, IfOk, MatchResu
 ghost use Rattle.std.specs.List.{AllZip};
 ghost use Rattle.field.specs.Ring.{of_nat};
 ghost use Rattle.lookup.specs.Lookups.{lookups_of};
-ghost use Rattle.lookup_files.specs.Shapes.{column_names, shape_of};
-ghost use Rattle.lookup_files.specs.Tables.{tables_of};
+ghost use Rattle.language_meaning.specs.Shapes.{column_names, shape_of};
+ghost use Rattle.language_meaning.specs.Tables.{tables_of};
 ghost use Rattle.lookup_judge.specs.Causes.{IsAirRefusal, IsElementRefusal, IsFirstElementRefusal, IsMiscounted, IsSayingRefusal, IsTableRefusal};
 ghost use Rattle.lookup_judge.specs.Said.{AreLookupsOf, AreSaid, AreWhole, IsSaid, SayOver, airs_of, trace_in};
 ghost use Rattle.lookup_judge.specs.internal.Airs.{AreFittingAirs, IsFittingAir, over_traced};
-ghost use Rattle.lookup_names.specs.Lookups.{Said, said_of};
+ghost use Rattle.language_meaning.specs.Lookups.{Said, said_of};
 ghost use Rattle.lookup_text.specs.Batches.{air_of, section_of};
 ghost use Rattle.lookup_text.specs.Tables.{table_of};
 
 use crate::fault::JudgeFault;
 use field::Field;
 use field_words::elements_of;
+use language_meaning::{
+    AirShape, AirTables, NamedAir, has_whole_rows, lookups_of, lookups_over, matrix_of,
+};
 use lookup::Lookups;
 use lookup::debug_util::fit_fault;
-use lookup_elements::{has_whole_rows, lookups_over, matrix_of};
-use lookup_files::{AirShape, AirTables};
-use lookup_names::{NamedAir, lookups_of};
 use lookup_text::{AirText, BatchText, SectionText, Table};
 use matrix::RowMajorMatrix;
 use std::alloc::{AllocError, Global};

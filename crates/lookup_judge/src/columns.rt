@@ -3,7 +3,7 @@ use crate::page::{Page, shown_cell};
 use crate::report::AirReport;
 use crate::sections::{Told, push_lookup};
 use crate::words::{Lines, is_lookup};
-use lookup_names::bytes_of;
+use language_meaning::bytes_of;
 use lookup_text::AirText;
 use std::alloc::{AllocError, Global};
 

@@ -1,16 +1,16 @@
 //! The commands about a batch, each from the bytes of its files to its answer.
 ghost use Rattle.std.specs.Prelude.{◌≡◌, ◌⊎◌, Err, MatchResult, Ok, map, true};
-ghost use Rattle.lookup_files.specs.Files.{named_of};
-ghost use Rattle.lookup_files.specs.Shapes.{all_shapes, shape_of};
-ghost use Rattle.lookup_files.specs.Tables.{all_tables, tables_of};
+ghost use Rattle.language_meaning.specs.Files.{named_of};
+ghost use Rattle.language_meaning.specs.Shapes.{all_shapes, shape_of};
+ghost use Rattle.language_meaning.specs.Tables.{all_tables, tables_of};
 ghost use Rattle.lookup_judge.specs.Bits.{challenges_of};
 ghost use Rattle.lookup_judge.specs.Causes.{IsBusRefusalOr, IsSayingRefusal};
 ghost use Rattle.lookup_judge.specs.RunRefusals.{IsCheckRefused, IsPlanRefused, IsShowRefused, IsTaskRefused};
 ghost use Rattle.lookup_judge.specs.Runs.{AnswersOver, IsPlanned, IsShown, IsVerdict};
 ghost use Rattle.lookup_judge.specs.Said.{SayOver, airs_of};
-ghost use Rattle.lookup_names.specs.Buses.{distinct_buses};
-ghost use Rattle.lookup_names.specs.Lookups.{said_of};
-ghost use Rattle.lookup_files.specs.declared.fault.TableRefusal.{TableRefusal};
+ghost use Rattle.language_meaning.specs.Buses.{distinct_buses};
+ghost use Rattle.language_meaning.specs.Lookups.{said_of};
+ghost use Rattle.language_meaning.specs.declared.table_fault.TableRefusal.{TableRefusal};
 ghost use Rattle.lookup_text.specs.Batches.{batch_at, section_of};
 ghost use Rattle.lookup_text.specs.declared.fault.Fault.{Fault};
 
@@ -28,8 +28,9 @@ use crate::sections::{Told, push_airs, push_plan, push_report};
 use crate::show::{push_json, push_lookups};
 use crate::witness::{accept, any, witness};
 use field_words::{Challenge, Written};
-use lookup_files::{AirShape, AirTables, NamedFile, TableFault, read_shapes, read_tables};
-use lookup_names::{NamedAir, check_buses};
+use language_meaning::{
+    AirShape, AirTables, NamedAir, NamedFile, TableFault, check_buses, read_shapes, read_tables,
+};
 use lookup_text::{BatchText, TextFault, read_batch};
 use lookup_words::{FieldName, Task};
 use std::alloc::Global;

@@ -3,10 +3,9 @@ ghost use Rattle.std.specs.Prelude.{◌≡◌};
 ghost use Rattle.lookup_judge.specs.declared.fault.JudgeFault.TheVariants.{Memory, Name};
 
 use batch::BatchError;
+use language_meaning::{ElementFault, ElementRefusal, NameFault, NameRefusal};
 use lookup::LookupError;
 use lookup::debug_util::FitFault;
-use lookup_elements::{ElementFault, ElementRefusal};
-use lookup_names::{NameFault, NameRefusal};
 use std::alloc::{AllocError, AllocFailed};
 
 /// A refusal to judge a batch.

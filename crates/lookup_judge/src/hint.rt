@@ -2,7 +2,7 @@
 use crate::commands::Given;
 use crate::near::{name_at, near_name};
 use crate::words::bus_named;
-use lookup_names::{NameRefusal, NameWhy};
+use language_meaning::{NameRefusal, NameWhy};
 use lookup_text::{BatchText, Fault, Kind, TextFault, Why, place_of, tokens};
 use std::alloc::{AllocError, Global};
 

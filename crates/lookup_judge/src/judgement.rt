@@ -3,12 +3,12 @@ ghost use Rattle.std.specs.Prelude.{◌≡◌, ◌⊎◌, ◌↔◌, All, IfOk, 
 ghost use Rattle.batch.specs.Traces.{view_of};
 ghost use Rattle.field.specs.Ring.{of_nat};
 ghost use Rattle.lookup_debug.specs.Contributions.{Traced, traced_of};
-ghost use Rattle.lookup_files.specs.Tables.{tables_of};
+ghost use Rattle.language_meaning.specs.Tables.{tables_of};
 ghost use Rattle.lookup_judge.specs.Causes.{IsJudgeRefusal};
 ghost use Rattle.lookup_judge.specs.Found.{IsFound, sized_of};
 ghost use Rattle.lookup_judge.specs.Said.{AreSaid, airs_of};
 ghost use Rattle.lookup_judge.specs.internal.Airs.{over_traced, size_of};
-ghost use Rattle.lookup_names.specs.Buses.{distinct_buses};
+ghost use Rattle.language_meaning.specs.Buses.{distinct_buses};
 ghost use Rattle.lookup_text.specs.Batches.{section_of};
 
 use crate::airs::AirOver;
@@ -19,8 +19,8 @@ use crate::report::Report;
 use crate::sizes::SizedAir;
 use batch::BatchTrace;
 use field::{ExtensionField, Field, Over};
+use language_meaning::AirTables;
 use lookup::debug_util::{BusGroup, LookupDebugInstance, SignedField, bus_table};
-use lookup_files::AirTables;
 use lookup_text::BatchText;
 use std::alloc::{AllocError, Global};
 

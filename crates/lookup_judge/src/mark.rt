@@ -3,7 +3,7 @@ ghost use Rattle.std.specs.Prelude.{◌≤◌, length};
 
 use crate::hint::Hint;
 use crate::page::Page;
-use lookup_names::NameWhy;
+use language_meaning::NameWhy;
 use lookup_text::{Why, place_of};
 use std::alloc::AllocError;
 

@@ -2,8 +2,7 @@
 use crate::commands::Given;
 use crate::mark::is_name;
 use crate::words::air_at;
-use lookup_files::{TableFault, read_shapes};
-use lookup_names::{NameWhy, bytes_of};
+use language_meaning::{NameWhy, TableFault, bytes_of, read_shapes};
 use lookup_text::{BatchText, ItemText, SectionText};
 use std::alloc::{AllocError, Global};
 

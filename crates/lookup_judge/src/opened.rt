@@ -2,15 +2,15 @@
 ghost use Rattle.std.specs.Prelude.{◌≡◌, ◌⊎◌, IfErr, IfOk, MatchOption, MatchResult, Ok, map};
 ghost use Rattle.batch.specs.Runs.{plan_of};
 ghost use Rattle.field.specs.Ring.{of_nat};
-ghost use Rattle.lookup_files.specs.Files.{named_of};
-ghost use Rattle.lookup_files.specs.Tables.{tables_of};
+ghost use Rattle.language_meaning.specs.Files.{named_of};
+ghost use Rattle.language_meaning.specs.Tables.{tables_of};
 ghost use Rattle.lookup_judge.specs.Causes.{HasNoPlan};
 ghost use Rattle.lookup_judge.specs.Found.{IsPlanOf, sized_of};
 ghost use Rattle.lookup_judge.specs.RunRefusals.{IsOpeningRefused};
 ghost use Rattle.lookup_judge.specs.Said.{AreSaid, airs_of};
 ghost use Rattle.lookup_judge.specs.internal.Airs.{AreFittingAirs, over_traced};
 ghost use Rattle.lookup_judge.specs.internal.Opened.{IsOpened};
-ghost use Rattle.lookup_names.specs.Buses.{distinct_buses};
+ghost use Rattle.language_meaning.specs.Buses.{distinct_buses};
 ghost use Rattle.lookup_text.specs.Batches.{section_of};
 
 use crate::airs::{AirOver, airs_over};
@@ -23,8 +23,7 @@ use crate::refusal::RunRefusal;
 use batch::BatchPlan;
 use field::Field;
 use field_words::{Challenge, Written};
-use lookup_files::AirTables;
-use lookup_names::check_buses;
+use language_meaning::{AirTables, check_buses};
 use lookup_text::BatchText;
 use lookup_words::{ChallengeWords, FieldName};
 use std::alloc::Global;

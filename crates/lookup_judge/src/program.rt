@@ -3,7 +3,7 @@ ghost use Rattle.std.specs.Prelude.{◌≡◌, ◌⊎◌, ◌↔◌, ◌-◌, �
 ghost use Rattle.std.specs.Io.KnownBytes.{Appends};
 ghost use Rattle.std.specs.Process.{exit_status};
 ghost use Rattle.std.specs.String.{string_bytes};
-ghost use Rattle.lookup_files.specs.Files.{named_of};
+ghost use Rattle.language_meaning.specs.Files.{named_of};
 ghost use Rattle.lookup_judge.specs.Bits.{MeetsTarget, alphas_of, challenges_of};
 ghost use Rattle.lookup_judge.specs.RunRefusals.{IsAskedRefused, IsRefusedIn, IsRunRefusal};
 ghost use Rattle.lookup_judge.specs.Runs.{AnswersIn, AnswersTo, Ends, IsAnswer};
@@ -19,7 +19,7 @@ use field::F7;
 use field_monty::{BabyBear, BabyBear4, KoalaBear, KoalaBear4};
 use field_words::Written;
 use goldilocks::{Goldilocks, Goldilocks2};
-use lookup_files::NamedFile;
+use language_meaning::NamedFile;
 use lookup_words::{Asked, BatchRequest, BitsRequest, FieldName, WordsRefusal, asked};
 use std::alloc::Global;
 use std::io::{ErrorKind, Write};
@@ -30,7 +30,7 @@ use std::process::ExitCode;
 pub struct Inputs<'a> {
     /// The file with the text of the batch.
     pub text: &'a [u8],
-    /// The files that it names in turn; see `lookup_files::files_of`.
+    /// The files that it names in turn; see `language_meaning::files_of`.
     pub files: &'a [NamedFile],
     /// The file with the witness, for `accept`.
     pub witness: &'a [u8],

@@ -3,8 +3,8 @@ use crate::fields::TableField;
 use crate::page::{Page, characters};
 use crate::sections::{Told, group_cell, push_lookup};
 use crate::words::{bus_named, lookup_at, trace_file};
+use language_meaning::bytes_of;
 use lookup::debug_util::{BusGroup, GroupName, Location, SignedField, UnbalancedTuple};
-use lookup_names::bytes_of;
 use lookup_text::{Span, place_of};
 use std::alloc::AllocError;
 

@@ -1,6 +1,6 @@
 //! The commands about witnesses.
 ghost use Rattle.std.specs.Prelude.{◌≡◌, ◌⊎◌, ◌↔◌, ◌∷◌, [], IfOk, IsTrue, MatchResult, false, map, true};
-ghost use Rattle.lookup_files.specs.Files.{named_of};
+ghost use Rattle.language_meaning.specs.Files.{named_of};
 ghost use Rattle.lookup_judge.specs.RunRefusals.{IsAnyRefused, IsWitnessRefused};
 ghost use Rattle.lookup_judge.specs.Runs.{IsAcceptance, IsAcceptanceTold, IsDecision, IsWitnessed, decision_line};
 ghost use Rattle.witness_text.specs.Lines.{IsTextOf};

@@ -5,9 +5,10 @@ use field::{F7, PrimeCharacteristicRing};
 use field_monty::{BabyBear, BabyBear4};
 use field_words::{Challenge, elements_of, number};
 use goldilocks::{Goldilocks, Goldilocks2};
-use lookup_elements::{expression_of, has_whole_rows, lookups_over, matrix_of};
+use language_meaning::{
+    NamedAir, Value, expression_of, has_whole_rows, lookups_of, lookups_over, matrix_of,
+};
 use lookup_model::{Kind, Lookup};
-use lookup_names::{NamedAir, Value, lookups_of};
 use lookup_text::{SectionText, Table, read_batch, read_table};
 use std::alloc::{AllocError, Global};
 

@@ -1,7 +1,7 @@
 //! Batches, judged.
 use super::holds;
 use field_monty::{BabyBear, BabyBear4};
-use lookup_files::{NamedFile, read_shapes, read_tables};
+use language_meaning::{NamedFile, read_shapes, read_tables};
 use lookup_judge::{PlanReport, Report, judge, judge_plan};
 use lookup_text::{BatchText, read_batch};
 use std::alloc::{AllocError, Global};

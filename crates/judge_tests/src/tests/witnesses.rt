@@ -2,7 +2,7 @@
 use super::holds;
 use checker::Witness;
 use field::F7;
-use lookup_files::NamedFile;
+use language_meaning::NamedFile;
 use lookup_judge::{Inputs, run};
 use lookup_model::LookupTerminal;
 use matrix::RowMajorMatrix;

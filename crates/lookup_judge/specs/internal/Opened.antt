@@ -1,7 +1,7 @@
 -- A batch over its tables, with its plan and a pair of challenges, as the program holds it.
 use Rattle.std.specs.Prelude.{ℕ, List, map}
 use Rattle.field_words.specs.Fields.{Fields}
-use Rattle.lookup_files.specs.Files.{File}
+use Rattle.language_meaning.specs.Files.{File}
 use Rattle.lookup_words.specs.declared.request.ChallengeWords.{ChallengeWords}
 use Rattle.batch.specs.Plans.{Plan}
 use Rattle.lookup_judge.specs.Found.{IsPlanOf, sized_of}

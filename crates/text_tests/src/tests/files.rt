@@ -1,7 +1,7 @@
 //! The files of texts, and their tables.
 use super::examples::{MEMORY, PROCESSOR};
 use super::holds;
-use lookup_files::{
+use language_meaning::{
     AirShape, AirTables, NamedFile, TableFault, TableRefusal, TableWhy, content_of, files_of,
     path_beside, read_shapes, read_tables,
 };

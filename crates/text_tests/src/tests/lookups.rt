@@ -2,7 +2,7 @@
 use super::examples::{MEMORY, PROCESSOR};
 use super::holds;
 use super::names::number;
-use lookup_names::{
+use language_meaning::{
     NameFault, NameRefusal, NameWhy, NamedAir, NamedLookup, NamedPart, check_buses, lookups_of,
 };
 use lookup_text::{AirText, BatchText, Place, SectionText, place_of, read_batch};

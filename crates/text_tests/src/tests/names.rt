@@ -1,6 +1,6 @@
 //! What names and messages mean.
 use super::holds;
-use lookup_names::{
+use language_meaning::{
     Defined, NameFault, NameRefusal, NameWhy, NamedMessage, Scope, Value, bytes_of, copy_of,
     named_message, value_of,
 };

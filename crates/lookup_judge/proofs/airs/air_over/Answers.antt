@@ -6,8 +6,8 @@ use Rattle.lookup.specs.Lookups.{lookups_of}
 use Rattle.lookup_debug.specs.Fits.{FitTraces, IsFitFault}
 use Rattle.field.specs.Ring.{of_nat}
 use Rattle.air.specs.Traces.{air_traces}
-use Rattle.lookup_files.specs.Tables.{tables_of}
-use Rattle.lookup_names.specs.Lookups.{said_by_items, said_of}
+use Rattle.language_meaning.specs.Tables.{tables_of}
+use Rattle.language_meaning.specs.Lookups.{said_by_items, said_of}
 use Rattle.lookup_text.specs.Batches.{air_of, section_of}
 use Rattle.lookup_judge.specs.Said.{names_over, traces_in}
 use Rattle.lookup_judge.proofs.CauseLaws.{whole_table}

@@ -1,8 +1,8 @@
 use Rattle.std.proofs.Common.{◌≡◌, ◌∙◌, ◌<◌, ap, arith, inl, inr, length, map, sym}
 use Rattle.std.proofs.lemmas.List.{length-map, map_push}
 use Rattle.std.proofs.lemmas.Result.{err_from_is_err_and}
-use Rattle.lookup_files.specs.Shapes.{shape_of}
-use Rattle.lookup_names.specs.Lookups.{said_by_items, said_of}
+use Rattle.language_meaning.specs.Shapes.{shape_of}
+use Rattle.language_meaning.specs.Lookups.{said_by_items, said_of}
 use Rattle.lookup_text.specs.Batches.{air_of, section_of}
 use Rattle.lookup_judge.specs.Said.{airs_of, names_over}
 use Rattle.lookup_judge.proofs.AirLaws.{all_say, go_on_saying, image_next, next_air}

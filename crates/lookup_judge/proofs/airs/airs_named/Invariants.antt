@@ -1,6 +1,6 @@
 use Rattle.std.proofs.Common.{map}
-use Rattle.lookup_files.specs.Shapes.{shape_of}
-use Rattle.lookup_names.specs.Lookups.{said_of}
+use Rattle.language_meaning.specs.Shapes.{shape_of}
+use Rattle.language_meaning.specs.Lookups.{said_of}
 use Rattle.lookup_text.specs.Batches.{section_of}
 use Rattle.lookup_judge.specs.Said.{airs_of}
 use Rattle.lookup_judge.proofs.AirLaws.{GoOnSaying}

@@ -3,7 +3,7 @@ use Rattle.std.proofs.lemmas.List.{length-map, map_push}
 use Rattle.std.proofs.lemmas.List.Elements.{All-push, All-same}
 use Rattle.std.proofs.lemmas.Result.{err_from_is_err_and}
 use Rattle.field.specs.Ring.{of_nat}
-use Rattle.lookup_files.specs.Tables.{tables_of}
+use Rattle.language_meaning.specs.Tables.{tables_of}
 use Rattle.lookup_text.specs.Batches.{air_of, section_of}
 use Rattle.lookup_judge.specs.Said.{airs_of}
 use Rattle.lookup_judge.specs.internal.Airs.{IsFittingAir, over_traced}

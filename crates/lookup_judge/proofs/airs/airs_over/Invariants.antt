@@ -1,6 +1,6 @@
 use Rattle.std.proofs.Common.{map}
 use Rattle.field.specs.Ring.{of_nat}
-use Rattle.lookup_files.specs.Tables.{tables_of}
+use Rattle.language_meaning.specs.Tables.{tables_of}
 use Rattle.lookup_text.specs.Batches.{section_of}
 use Rattle.lookup_judge.specs.Said.{airs_of}
 use Rattle.lookup_judge.specs.internal.Airs.{AreFittingAirs, over_traced}

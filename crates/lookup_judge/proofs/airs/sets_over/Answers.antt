@@ -7,7 +7,7 @@ use Rattle.lists.proofs.Zips.{AllZip-images, AllZip-more}
 use Rattle.lookup.specs.Lookups.{lookups_of}
 use Rattle.lookup_judge.specs.Causes.{IsElementRefusal}
 use Rattle.lookup_judge.specs.Said.{AreLookupsOf}
-use Rattle.lookup_names.specs.Lookups.{said_of}
+use Rattle.language_meaning.specs.Lookups.{said_of}
 use Rattle.lookup_judge.proofs.AirLaws.{image_next}
 use Rattle.lookup_judge.proofs.CauseLaws.{first_refused}
 use Rattle.lookup_judge.proofs.airs.sets_over.Goals as goal

@@ -3,7 +3,7 @@ use Rattle.std.specs.List.{AllZip}
 use Rattle.field.specs.Ring.{of_nat}
 use Rattle.lookup.specs.Lookups.{lookups_of}
 use Rattle.lookup_judge.specs.Said.{AreLookupsOf}
-use Rattle.lookup_names.specs.Lookups.{said_of}
+use Rattle.language_meaning.specs.Lookups.{said_of}
 use Rattle.lookup_judge.proofs.airs.sets_over.Given as goal
 
 abbrev pub invariant-loop-index : goal.invariant-loop-index

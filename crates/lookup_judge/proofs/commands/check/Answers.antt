@@ -1,8 +1,8 @@
 use Rattle.std.proofs.Common.{◌≡◌, ◌⊎◌, ◌∙◌, List, ap, map, refl, subst, sym}
 use Rattle.field.specs.Ring.{of_nat}
 use Rattle.field_words.specs.Fields.{run_fields}
-use Rattle.lookup_files.specs.Files.{named_of}
-use Rattle.lookup_files.specs.Tables.{TablesOf, all_tables, tables_of}
+use Rattle.language_meaning.specs.Files.{named_of}
+use Rattle.language_meaning.specs.Tables.{TablesOf, all_tables, tables_of}
 use Rattle.lookup_text.specs.Batches.{Section, section_of}
 use Rattle.lookup_judge.specs.Causes.{IsJudgeRefusal}
 use Rattle.lookup_judge.specs.Said.{AreSaid, airs_of}

@@ -1,7 +1,7 @@
 use Rattle.std.proofs.Common.{◌≡◌, ◌⊎◌, ◌∙◌, ◌↔◌, IsTrue, List, ap, map, subst, sym}
 use Rattle.field_words.specs.Fields.{run_fields}
-use Rattle.lookup_files.specs.Files.{named_of}
-use Rattle.lookup_files.specs.Shapes.{Shape, all_shapes, shape_of}
+use Rattle.language_meaning.specs.Files.{named_of}
+use Rattle.language_meaning.specs.Shapes.{Shape, all_shapes, shape_of}
 use Rattle.lookup_text.specs.Batches.{Section, section_of}
 use Rattle.lookup_judge.specs.Bits.{MeetsTarget, challenges_of}
 use Rattle.lookup_judge.specs.Causes.{IsPlanJudgeRefusal}

@@ -1,8 +1,8 @@
 use Rattle.std.proofs.Common.{◌∙◌, ap, inl, inr, map, subst, sym}
 use Rattle.field.specs.Ring.{of_nat}
-use Rattle.lookup_files.specs.Files.{named_of}
-use Rattle.lookup_files.specs.Shapes.{all_shapes, shape_of}
-use Rattle.lookup_names.specs.Lookups.{said_of}
+use Rattle.language_meaning.specs.Files.{named_of}
+use Rattle.language_meaning.specs.Shapes.{all_shapes, shape_of}
+use Rattle.language_meaning.specs.Lookups.{said_of}
 use Rattle.lookup_text.specs.Batches.{section_of}
 use Rattle.lookup_judge.specs.Causes.{IsFirstElementRefusal, IsSayingRefusal}
 use Rattle.lookup_judge.specs.Said.{SayOver, airs_of}

@@ -7,7 +7,7 @@ use Rattle.field.specs.Ring.{of_nat}
 use Rattle.lookup_debug.specs.BusTable.{row_of}
 use Rattle.lookup_debug.specs.Contributions.{Traced, traced_of}
 use Rattle.lookup_debug.specs.Signs.{is_negative}
-use Rattle.lookup_files.specs.Tables.{tables_of}
+use Rattle.language_meaning.specs.Tables.{tables_of}
 use Rattle.lookup_text.specs.Batches.{section_of}
 use Rattle.lookup_judge.specs.Causes.{IsReportRefusal}
 use Rattle.lookup_judge.specs.Found.{IsPlanOf, sized_of}

@@ -1,7 +1,7 @@
 use Rattle.std.proofs.Common.{◌≡◌, ◌⊎◌, ◌∙◌, ap, inl, inr, map, subst, sym}
 use Rattle.field.specs.Ring.{of_nat}
-use Rattle.lookup_files.specs.Files.{named_of}
-use Rattle.lookup_files.specs.Tables.{all_tables, tables_of}
+use Rattle.language_meaning.specs.Files.{named_of}
+use Rattle.language_meaning.specs.Tables.{all_tables, tables_of}
 use Rattle.lookup_text.specs.Batches.{section_of}
 use Rattle.lookup_judge.specs.Causes.{HasNoPlan}
 use Rattle.lookup_judge.specs.declared.fault.JudgeFault.TheVariants as fault

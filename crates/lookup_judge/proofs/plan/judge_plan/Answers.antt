@@ -7,8 +7,8 @@ use Rattle.batch.specs.Runs.{plan_of}
 use Rattle.field.specs.Ring.{of_nat}
 use Rattle.lists.proofs.Zips.{AllZip-images}
 use Rattle.lookup.specs.Lookups.{lookups_of}
-use Rattle.lookup_files.specs.Shapes.{shape_of}
-use Rattle.lookup_names.specs.Lookups.{said_of}
+use Rattle.language_meaning.specs.Shapes.{shape_of}
+use Rattle.language_meaning.specs.Lookups.{said_of}
 use Rattle.lookup_text.specs.Batches.{section_of}
 use Rattle.lookup_judge.specs.Causes.{IsPlanningRefusal, IsReportRefusal}
 use Rattle.lookup_judge.specs.Found.{IsPlanOf, sized_over}

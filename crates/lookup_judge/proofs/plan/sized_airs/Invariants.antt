@@ -1,6 +1,6 @@
 use Rattle.std.proofs.Common.{◌≡◌, ◌++◌, drop, map}
 use Rattle.lookup.specs.Lookups.{lookups_of}
-use Rattle.lookup_files.specs.Shapes.{shape_of}
+use Rattle.language_meaning.specs.Shapes.{shape_of}
 use Rattle.lookup_judge.specs.Found.{sized_over}
 use Rattle.lookup_judge.specs.internal.Airs.{size_of}
 use Rattle.lookup_judge.proofs.plan.sized_airs.Given as goal

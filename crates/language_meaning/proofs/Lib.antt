@@ -1,0 +1,9 @@
+pub mod BusLaws
+pub mod ColumnLaws
+pub mod LookupLaws
+pub mod MessageLaws
+pub mod RoomLaws
+pub mod ScopeLaws
+pub mod ShapeLaws
+pub mod TableLaws
+pub mod ValueLaws

@@ -1,0 +1,14 @@
+pub mod Buses
+pub mod Columns
+pub mod Expressions
+pub mod Faults
+pub mod Files
+pub mod Lookups
+pub mod Messages
+pub mod Paths
+pub mod Room
+pub mod Scopes
+pub mod Shapes
+pub mod Tables
+pub mod Traces
+pub mod Values

@@ -1,9 +1,0 @@
-use Rattle.std.proofs.Common.{◌≡◌, ◌++◌, drop, map}
-use Rattle.lookup_text.specs.Batches.{section_of}
-use Rattle.lookup_files.specs.Files.{files_in}
-use Rattle.lookup_files.specs.Tables.{names_in}
-use Rattle.lookup_files.proofs.files.files_of.Given as goal
-
--- the files so far and those of the sections that are left are those of all
-abbrev pub invariant-loop-section : goal.invariant-loop-section
-invariant-loop-section l = let sections = l.batch.sections.items in names_in l.files.items ++ files_in l.text (map section_of (drop l.section-index sections)) ≡ files_in l.text (map section_of sections)

@@ -1,9 +1,0 @@
-use Rattle.std.proofs.Common.{◌≡◌, None, drop, map}
-use Rattle.lookup_text.specs.Items.{placed_of}
-use Rattle.lookup_files.specs.declared.fault.TableWhy.TheVariants.{RepeatedPreprocessed}
-use Rattle.lookup_files.specs.Tables.{fixed_in, one_of}
-use Rattle.lookup_files.proofs.tables.one_preprocessed.Given as goal
-
--- what the items that are left name after what is found is what all name
-abbrev pub invariant-loop-item : goal.invariant-loop-item
-invariant-loop-item l = one_of fixed_in RepeatedPreprocessed l.found (map placed_of (drop l.item-index l.items)) ≡ one_of fixed_in RepeatedPreprocessed None (map placed_of l.items)

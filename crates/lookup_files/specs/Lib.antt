@@ -1,4 +1,0 @@
-pub mod Files
-pub mod Paths
-pub mod Shapes
-pub mod Tables

@@ -1,7 +1,0 @@
-use Rattle.std.proofs.Common.{◌≡◌, drop, map}
-use Rattle.lookup_text.specs.Batches.{section_of}
-use Rattle.lookup_names.specs.Buses.{buses_of, declares_any}
-use Rattle.lookup_names.proofs.bus.declares.Given as goal
-
-abbrev pub invariant-loop-section : goal.invariant-loop-section
-invariant-loop-section l = declares_any (buses_of (map section_of (drop l.section-index l.sections))) ≡ declares_any (buses_of (map section_of l.sections))

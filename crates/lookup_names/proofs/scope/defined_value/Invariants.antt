@@ -1,6 +1,0 @@
-use Rattle.std.proofs.Common.{◌≡◌, drop, map}
-use Rattle.lookup_names.specs.Scopes.{defined_of, definition}
-use Rattle.lookup_names.proofs.scope.defined_value.Given as goal
-
-abbrev pub invariant-loop-item : goal.invariant-loop-item
-invariant-loop-item l = definition l.name (map defined_of l.defined) ≡ definition l.name (map defined_of (drop l.item-index l.defined))

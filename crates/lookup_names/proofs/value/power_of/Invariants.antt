@@ -1,6 +1,0 @@
-use Rattle.std.proofs.Common.{◌≡◌}
-use Rattle.lookup_names.specs.Values.{meant_of, powers}
-use Rattle.lookup_names.proofs.value.power_of.Given as goal
-
-abbrev pub invariant-loop : goal.invariant-loop
-invariant-loop l = meant_of l.product ≡ powers l.counter (meant_of l.base)
