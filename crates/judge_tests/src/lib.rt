@@ -1,4 +1,4 @@
-//! The tests of `language_meaning` over fields and of `lookup_judge`, in a crate of their own: a crate that has tests
+//! The tests of `language_meaning` over fields and of `check_judge` and `check_run`, in a crate of their own: a crate that has tests
 //! is proved twice.
 //!
 //! They show what no contract says: that calls succeed. What the program writes is in `cases/check/`.

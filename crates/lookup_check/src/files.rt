@@ -1,7 +1,7 @@
 //! The files that a command line and the text of a batch name.
 use crate::steps::Steps;
+use check_report::RunRefusal;
 use language_meaning::{NamedFile, files_of, path_beside};
-use lookup_judge::RunRefusal;
 use lookup_text::{TextFault, read_batch};
 use lookup_words::{BatchRequest, Task};
 use std::{fs, io};

@@ -1,12 +1,13 @@
-//! The program `lookup-check`: `run` of `lookup_judge` over the words of the command line, the files
+//! The program `lookup-check`: `run` of `check_run` over the words of the command line, the files
 //! that they name and the standard streams.
 #![tactic(auto)]
 
 mod files;
 mod steps;
 
+use check_report::RunRefusal;
+use check_run::{Inputs, refuse, run};
 use files::{ReadFiles, read_files};
-use lookup_judge::{Inputs, RunRefusal, refuse, run};
 use lookup_words::{Asked, BatchRequest, Task, WordsRefusal, asked};
 use std::process::ExitCode;
 use std::{env, fs, io};

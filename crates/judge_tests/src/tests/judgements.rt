@@ -1,8 +1,8 @@
 //! Batches, judged.
 use super::holds;
+use check_judge::{PlanReport, Report, judge, judge_plan};
 use field_monty::{BabyBear, BabyBear4};
 use language_meaning::{NamedFile, read_shapes, read_tables};
-use lookup_judge::{PlanReport, Report, judge, judge_plan};
 use lookup_text::{BatchText, read_batch};
 use std::alloc::{AllocError, Global};
 

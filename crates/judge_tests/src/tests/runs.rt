@@ -1,7 +1,9 @@
 //! Whole runs, over streams in memory.
 use super::holds;
 use super::judgements::{TEXT, files};
-use lookup_judge::{Inputs, RunRefusal, bits_of, refuse, run};
+use check_judge::bits_of;
+use check_report::RunRefusal;
+use check_run::{Inputs, refuse, run};
 use std::alloc::{AllocError, Global};
 use std::io;
 use std::io::{ErrorKind, Write};

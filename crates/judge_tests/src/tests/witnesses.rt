@@ -1,9 +1,9 @@
 //! Witnesses as text, and the commands about them.
 use super::holds;
+use check_run::{Inputs, run};
 use checker::Witness;
 use field::F7;
 use language_meaning::NamedFile;
-use lookup_judge::{Inputs, run};
 use lookup_model::LookupTerminal;
 use matrix::RowMajorMatrix;
 use std::alloc::{AllocError, Global};

@@ -1,0 +1,11 @@
+pub mod AirLaws
+pub mod BitLaws
+pub mod CauseLaws
+pub mod CutLaws
+pub mod FittingLaws
+pub mod JudgeLaws
+pub mod OrderLaws
+pub mod PackingLaws
+pub mod SharedLaws
+pub mod SizeLaws
+pub mod TupleLaws

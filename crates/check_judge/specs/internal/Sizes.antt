@@ -1,0 +1,8 @@
+-- The sizes of AIRs, as the program holds them.
+use Rattle.lookup.specs.Lookups.{lookups_of}
+use Rattle.check_judge.specs.Found.{Sized}
+use Rattle.check_judge.specs.declared.sizes.SizedAir.{SizedAir}
+
+-- the lookups and the size of an AIR
+abbrev pub size_of : {F : Type 0} → SizedAir F → Sized F
+size_of a = record { lookups = lookups_of a.lookups.now; rows = a.rows; columns = a.columns }

@@ -1,0 +1,25 @@
+//! Batches that are written as text, judged: whether all messages balance, how heavy and how sound
+//! the batch is, and which tuples are sent too often.
+//!
+//! `judge` takes a batch of `lookup_text` and the tables of its AIRs over one field, and calls the
+//! lookup library over the lookups and traces that they say. `judge_plan` needs no tables, but how
+//! large they are.
+#![tactic(auto)]
+
+mod airs;
+mod bits;
+mod fault;
+mod fields;
+mod judgement;
+mod plan;
+mod report;
+mod sharing;
+mod sizes;
+
+pub use airs::{AirOver, MAX_NODES, airs_named, airs_of, sets_over};
+pub use bits::{Deceiving, bits_of};
+pub use fault::JudgeFault;
+pub use fields::TableField;
+pub use judgement::{PlannedAirs, judge, planned_airs, traces_of};
+pub use plan::judge_plan;
+pub use report::{AirReport, PlanReport, Report};

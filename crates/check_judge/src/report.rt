@@ -1,0 +1,76 @@
+//! What is found of a batch.
+ghost use Rattle.std.specs.Prelude.{◌≡◌};
+
+use crate::bits::Deceiving;
+use batch::HeightSoundness;
+use checker::SoundnessCount;
+use lookup::debug_util::BusGroup;
+
+/// What is found of an AIR.
+#[derive(Debug, Drop)]
+pub struct AirReport {
+    pub rows: usize,
+    pub columns: usize,
+    /// The sum of the weights of all lookups.
+    pub weight: u128,
+    /// The degree of the constraint of each lookup.
+    pub degrees: Vec<usize>,
+    /// The same of the columns that packing within the degree leaves.
+    pub packed: Vec<usize>,
+    /// The numbers of the lookups that share each of these columns, from 0 in the order of the text.
+    pub packed_lookups: Vec<Vec<usize>>,
+}
+
+/// What is found of a batch before any trace is seen.
+#[derive(Debug, Drop)]
+pub struct PlanReport {
+    /// The AIRs, in their order.
+    pub airs: Vec<AirReport>,
+    /// How many ids the lookups take: one for each bus and each lookup on a bus of its own.
+    pub ids: usize,
+    /// The number of values of the widest tuple, at least 1.
+    pub widest: usize,
+    /// The sum of weights times heights.
+    pub height_sum: u128,
+    /// The characteristic, which is above that sum.
+    pub characteristic: u128,
+    /// How many messages there are at the most, whatever the traces are, and how few challenges
+    /// accept a batch that does not balance.
+    pub heights: HeightSoundness,
+}
+
+impl PlanReport {
+    /// At how few challenges a batch that does not balance is accepted, whatever its traces hold.
+    pub fn for_all_traces(&self) -> Deceiving
+        ensures { (result.betas ≡ self.now.heights.bad_betas)
+            × (result.alphas ≡ self.now.heights.accepting_alphas) }
+    {
+        Deceiving {
+            betas: self.heights.bad_betas,
+            alphas: self.heights.accepting_alphas,
+        }
+    }
+}
+
+/// What is found of a batch over traces, over a field with elements `F`.
+#[derive(Debug, Drop)]
+pub struct Report<F> {
+    pub plan: PlanReport,
+    /// How many messages there are over these traces, and how few challenges accept a batch that
+    /// does not balance.
+    pub counts: SoundnessCount,
+    /// The table of buses; see `lookup::debug_util::bus_table`.
+    pub groups: Vec<BusGroup<F>>,
+    /// Whether all messages balance.
+    pub balanced: bool,
+}
+
+impl<F> Report<F> {
+    /// At how few challenges the batch is accepted over these traces, if it does not balance.
+    pub fn for_these_traces(&self) -> Deceiving {
+        Deceiving {
+            betas: self.counts.linear_bad_betas(),
+            alphas: self.counts.accepting_alphas,
+        }
+    }
+}

@@ -1,0 +1,32 @@
+//! What is told of a batch that is judged, as text: the sections of a report, the lookups as they
+//! are understood, and why a run is refused, with the place in the text.
+//!
+//! What the texts say is tested. Proved are the last line of a report, the line about a whole file,
+//! and that a refusal for want of memory is told as one.
+#![tactic(auto)]
+
+mod bits;
+mod columns;
+mod fields;
+mod given;
+mod hint;
+mod mark;
+mod names;
+mod near;
+mod page;
+mod refusal;
+mod sections;
+mod show;
+mod told;
+mod unbalanced;
+mod words;
+
+pub use bits::{FIELDS, push_bits_table, push_target};
+pub use given::Given;
+pub use page::Page;
+pub use refusal::RunRefusal;
+pub use sections::{push_airs, push_plan, push_report};
+pub use show::push_lookups;
+pub use told::{Told, air_name};
+pub use unbalanced::magnitude;
+pub use words::{lookup_at, trace_file};

@@ -1,0 +1,57 @@
+//! What the sections of a report are told with.
+use crate::page::Page;
+use crate::words::first_word;
+use language_meaning::bytes_of;
+use lookup::debug_util::GroupName;
+use lookup_text::{AirText, BatchText, ItemText};
+use lookup_words::FieldName;
+use std::alloc::AllocError;
+
+/// What the sections of a report are told with.
+#[derive(Clone, Copy)]
+pub struct Told<'a> {
+    /// The text of the batch.
+    pub text: &'a [u8],
+    pub batch: &'a BatchText,
+    /// Its AIRs, in their order.
+    pub airs: &'a [&'a AirText],
+    pub field: FieldName,
+    /// How many unbalanced tuples of a bus are told, and how many places of a tuple.
+    pub limit: usize,
+    /// The degree within which columns are packed.
+    pub max_degree: usize,
+}
+
+/// The name of the AIR with this number.
+pub fn air_name(told: Told<'_>, air: usize) -> &[u8] {
+    match told.airs.get(air) {
+        Some(said) => bytes_of(told.text, said.name),
+        None => &[],
+    }
+}
+
+/// Appends how a lookup is told: the word with which its item begins, and its line.
+pub(crate) fn push_lookup(page: &mut Page, item: &ItemText, line: usize) -> Result<(), AllocError> {
+    page.word(first_word(item))?;
+    page.word(" of line ")?;
+    page.number(line as u128)
+}
+
+/// A cell with the name of a group.
+pub(crate) fn group_cell(
+    page: &Page,
+    told: Told<'_>,
+    group: &GroupName,
+) -> Result<Vec<u8>, AllocError> {
+    let mut cell = Page::new(page.alloc());
+    match group {
+        GroupName::Bus(name) => cell.shown(name.as_bytes())?,
+        GroupName::Local { instance, lookup } => {
+            cell.word("local ")?;
+            cell.shown(air_name(told, *instance))?;
+            cell.word(" ")?;
+            cell.number(*lookup as u128)?;
+        }
+    }
+    Ok(cell.bytes)
+}

@@ -1,0 +1,121 @@
+//! What a text says of the AIRs and buses of a report, found again by their numbers.
+use language_meaning::bytes_of;
+use lookup_text::{AirText, BatchText, BusText, ItemText, PlacedItem, SectionText, Span, Verb};
+
+/// The lines of a text, found one after the other.
+#[derive(Drop)]
+pub(crate) struct Lines<'a> {
+    text: &'a [u8],
+    at: usize,
+    line: usize,
+}
+
+impl<'a> Lines<'a> {
+    pub(crate) fn of(text: &'a [u8]) -> Lines<'a> {
+        Lines {
+            text,
+            at: 0,
+            line: 1,
+        }
+    }
+
+    /// The line of a byte. Bytes that are asked for in order take one pass over the text.
+    pub(crate) fn line_of(&mut self, at: usize) -> usize {
+        if at < self.at {
+            self.at = 0;
+            self.line = 1;
+        }
+        let at = at.min(self.text.len());
+        if self.at < at {
+            let ends = self.text[self.at..at]
+                .iter()
+                .filter(|byte| **byte == b'\n')
+                .count();
+            self.line = self.line.saturating_add(ends);
+            self.at = at;
+        }
+        self.line
+    }
+}
+
+/// The AIR with this number.
+pub(crate) fn air_at(batch: &BatchText, air: usize) -> Option<&AirText> {
+    let mut before = air;
+    for section in &batch.sections {
+        if let SectionText::Air(found) = section {
+            if before == 0 {
+                return Some(found);
+            }
+            before -= 1;
+        }
+    }
+    None
+}
+
+/// The declaration of the bus with this name.
+pub(crate) fn bus_named<'a>(text: &[u8], batch: &'a BatchText, name: &[u8]) -> Option<&'a BusText> {
+    for section in &batch.sections {
+        if let SectionText::Bus(bus) = section {
+            if bytes_of(text, bus.name) == name {
+                return Some(bus);
+            }
+        }
+    }
+    None
+}
+
+/// The item with the lookup of this number.
+pub fn lookup_at(air: &AirText, lookup: usize) -> Option<&PlacedItem> {
+    air.items
+        .iter()
+        .filter(|item| is_lookup(&item.item))
+        .nth(lookup)
+}
+
+/// Whether an item has a lookup.
+pub(crate) fn is_lookup(item: &ItemText) -> bool {
+    matches!(
+        item,
+        ItemText::Message(_) | ItemText::Together(_) | ItemText::Exclusive(_)
+    )
+}
+
+/// The word with which an item with a lookup begins.
+pub(crate) fn first_word(item: &ItemText) -> &'static str {
+    match item {
+        ItemText::Message(message) => match message.verb {
+            Verb::Query => "query",
+            Verb::Provide => "provide",
+            Verb::Send => "send",
+            Verb::Receive => "receive",
+        },
+        ItemText::Together(_) => "together",
+        _ => "exclusive",
+    }
+}
+
+/// The file of the main or the preprocessed trace of an AIR.
+pub fn trace_file(air: &AirText, preprocessed: bool) -> Option<Span> {
+    for item in &air.items {
+        match &item.item {
+            ItemText::Trace(file) if !preprocessed => return Some(*file),
+            ItemText::Preprocessed(file) if preprocessed => return Some(*file),
+            _ => {}
+        }
+    }
+    None
+}
+
+/// The name of the public value with this number.
+pub(crate) fn public_name<'a>(text: &'a [u8], air: &AirText, index: usize) -> &'a [u8] {
+    let mut before = index;
+    for item in &air.items {
+        if let ItemText::Public(name, _) = &item.item {
+            if before == 0 {
+                return bytes_of(text, *name);
+            }
+            before -= 1;
+        }
+    }
+    &[]
+}

@@ -1,0 +1,3 @@
+pub mod OpenedLaws
+pub mod RunRefusalLaws
+pub mod TellLaws

@@ -1,0 +1,4 @@
+pub mod RunRefusals
+pub mod Runs
+pub mod Written
+pub mod internal

@@ -1,0 +1,119 @@
+-- Why a run is refused: a step that fails.
+use Rattle.std.specs.Prelude.{◌≡◌, ◌≢◌, ◌⊎◌, ℕ, Bool, true, List, [], ◌∷◌, Result, Err, Ok}
+use Rattle.std.specs.declared.alloc.Global.{Global}
+use Rattle.std.specs.declared.string.String.{String}
+use Rattle.field_monty.specs.Quartic.{Quartic}
+use Rattle.field.specs.Residue.{Residue}
+use Rattle.field.specs.Ring.{of_nat}
+use Rattle.field_words.specs.Fields.{Fields}
+use Rattle.goldilocks.specs.Quadratic.{Quadratic}
+use Rattle.lookup_text.specs.Batches.{Section, batch_at}
+use Rattle.lookup_text.specs.declared.fault.Fault.{Fault}
+use Rattle.language_meaning.specs.Files.{File}
+use Rattle.language_meaning.specs.Shapes.{all_shapes}
+use Rattle.language_meaning.specs.Tables.{all_tables}
+use Rattle.language_meaning.specs.declared.table_fault.TableRefusal.{TableRefusal}
+use Rattle.language_meaning.specs.Lookups.{Said}
+use Rattle.lookup_words.specs.Line.{HasFieldNames, Names, line_app}
+use Rattle.lookup_words.specs.Words.{IsAsked, IsRefused}
+use Rattle.lookup_words.specs.declared.refusal.WordsRefusal.TheVariants as of_words
+use Rattle.lookup_words.specs.declared.request.Asked.{Asked}
+use Rattle.lookup_words.specs.declared.request.Asked.TheVariants.{Batch, Bits}
+use Rattle.lookup_words.specs.declared.request.ChallengeWords.{ChallengeWords}
+use Rattle.lookup_words.specs.declared.request.FieldName.{FieldName}
+use Rattle.lookup_words.specs.declared.request.FieldName.TheVariants.{F7, BabyBear4, KoalaBear4, Goldilocks2}
+use Rattle.lookup_words.specs.declared.request.Task.{Task}
+use Rattle.lookup_words.specs.declared.request.Task.TheVariants.{Accept, Any, Check, Pack, Plan, Show, Witness}
+use Rattle.batch.specs.Grids.{CountsPlanGrid}
+use Rattle.batch.specs.Runs.{Proves, Run}
+use Rattle.batch.specs.declared.error.BatchError.{BatchError}
+use Rattle.batch.specs.declared.error.BatchError.TheVariants as batch
+use Rattle.check_judge.specs.Causes.{HasNoPlan, IsBusRefusalOr, IsFirstElementRefusal, IsJudgeRefusal, IsPlanJudgeRefusal, IsSayingRefusal}
+use Rattle.check_run.specs.Runs.{IsReadRun}
+use Rattle.check_judge.specs.Said.{SayOver, airs_of}
+use Rattle.check_judge.specs.declared.fault.JudgeFault.{JudgeFault}
+use Rattle.check_judge.specs.declared.fault.JudgeFault.TheVariants as judge
+use Rattle.check_report.specs.declared.refusal.RunRefusal.{RunRefusal}
+use Rattle.check_report.specs.declared.refusal.RunRefusal.TheVariants.{Memory}
+
+-- The text cannot be read, or else the tables or sizes of its AIRs cannot, or else a later step is refused, for another
+-- cause than want of memory.
+abbrev pub IsReadingRefused : {X : Type 0} → List ℕ → (List Section → Result X TableRefusal) → (List Section → X → JudgeFault → Type 0) → Type 0
+IsReadingRefused {X} text reading Later =
+    ((fault : Fault) × (batch_at text ≡ Err fault))
+    ⊎ ((sections : List Section) × (batch_at text ≡ Ok sections)
+    × (((refusal : TableRefusal) × (reading sections ≡ Err refusal))
+    ⊎ ((x : X) × (reading sections ≡ Ok x) × (e : JudgeFault) × (e ≢ judge.Memory) × Later sections x e)))
+
+module _ {F K : Type 0} (fields : Fields F K) (text : List ℕ) (files : List File) where
+  -- why `check` is refused
+  abbrev pub IsCheckRefused : ℕ → Type 0
+  IsCheckRefused max_degree = IsReadingRefused text (all_tables text files fields.characteristic) (λ sections. IsJudgeRefusal fields.extension fields.characteristic text sections max_degree)
+
+  -- why `plan` and `pack` are refused
+  abbrev pub IsPlanRefused : ℕ → Type 0
+  IsPlanRefused max_degree = IsReadingRefused text (all_shapes text files fields.characteristic) (λ sections. IsPlanJudgeRefusal fields.extension fields.characteristic text sections max_degree)
+
+  -- why `show` is refused: reading is, or what its AIRs say, or with `--json` a lookup that cannot be made
+  abbrev pub IsShowRefused : Bool → Type 0
+  IsShowRefused json = IsReadingRefused text (all_shapes text files fields.characteristic) (λ sections shapes. IsBusRefusalOr text sections (λ e.
+      IsSayingRefusal text sections shapes e
+      ⊎ ((json ≡ true) × (said : List Said) × SayOver text sections 1048576 (airs_of sections) shapes said × IsFirstElementRefusal (of_nat fields.extension.base) text said e)))
+
+  -- Why a run at two challenges does not begin: a word writes no challenge, or the batch cannot be read, or it has no
+  -- plan.
+  abbrev pub IsOpeningRefused : ChallengeWords → Type 0
+  IsOpeningRefused words =
+      ((x : K) → ¬ fields.written words.alpha.now x)
+      ⊎ (((x : K) → ¬ fields.written words.beta.now x)
+      ⊎ IsReadingRefused text (all_tables text files fields.characteristic) (HasNoPlan fields.characteristic (of_nat fields.extension.base) text))
+
+  -- why `witness` is refused: the run does not begin, or proving is refused
+  abbrev pub IsWitnessRefused : ChallengeWords → Type 0
+  IsWitnessRefused words =
+      IsOpeningRefused words
+      ⊎ ((run : Run F K) × IsReadRun fields text files words run
+      × (error : BatchError) × Proves run (Err error) × (error ≢ batch.Memory))
+
+  -- why `any` is refused: the run does not begin, or its pair of challenges cannot be judged
+  abbrev pub IsAnyRefused : ChallengeWords → Type 0
+  IsAnyRefused words =
+      IsOpeningRefused words
+      ⊎ ((run : Run F K) × IsReadRun fields text files words run
+      × (error : BatchError) × CountsPlanGrid fields.extension run.plan run.traces (run.alpha ∷ []) (run.beta ∷ []) (Err error) × (error ≢ batch.Memory))
+
+  -- why a task is refused; of `accept` this says nothing, since what it refuses is left to tests
+  abbrev pub IsTaskRefused : Task → Type 0
+  IsTaskRefused (Check limit degree json) = IsCheckRefused degree
+  IsTaskRefused (Plan degree json target) = IsPlanRefused degree
+  IsTaskRefused (Pack degree json) = IsPlanRefused degree
+  IsTaskRefused (Show json) = IsShowRefused json
+  IsTaskRefused (Witness words out) = IsWitnessRefused words
+  IsTaskRefused (Accept words file) = Unit {0}
+  IsTaskRefused (Any words) = IsAnyRefused words
+
+module _
+    (S : Fields (Residue 7) (Residue 7))
+    (B : Fields (Residue 2013265921) (Quartic (Residue 2013265921)))
+    (K : Fields (Residue 2130706433) (Quartic (Residue 2130706433)))
+    (G : Fields (Residue 18446744069414584321) (Quadratic (Residue 18446744069414584321)))
+  where
+    -- why a task over the field with this name is refused
+    abbrev pub IsRefusedIn : FieldName → Task → List ℕ → List File → Type 0
+    IsRefusedIn F7 task text files = IsTaskRefused S text files task
+    IsRefusedIn BabyBear4 task text files = IsTaskRefused B text files task
+    IsRefusedIn KoalaBear4 task text files = IsTaskRefused K text files task
+    IsRefusedIn Goldilocks2 task text files = IsTaskRefused G text files task
+
+    -- why what is asked is refused; `bits` is not
+    abbrev pub IsAskedRefused : Asked → List ℕ → List File → Type 0
+    IsAskedRefused (Batch request) text files = IsRefusedIn request.field request.task text files
+    IsAskedRefused (Bits request) text files = ⊥
+
+    -- the refusal of the words of a command line: memory ran out, or the words are refused, or what they ask for is
+    abbrev pub IsRunRefusal : List (List ℕ) → List ℕ → List File → RunRefusal → Type 0
+    IsRunRefusal words text files e =
+        (e ≡ Memory)
+        ⊎ ((names : Names) × HasFieldNames names
+        × (((told : String Global) × IsRefused (line_app names) words (of_words.Told told))
+        ⊎ ((asked : Asked) × IsAsked (line_app names) words asked × IsAskedRefused asked text files)))

@@ -1,0 +1,210 @@
+//! The commands about a batch, each from the bytes of its files to its answer.
+ghost use Rattle.std.specs.Prelude.{◌≡◌, ◌⊎◌, Err, MatchResult, Ok, map, true};
+ghost use Rattle.language_meaning.specs.Files.{named_of};
+ghost use Rattle.language_meaning.specs.Shapes.{shape_of};
+ghost use Rattle.check_judge.specs.Bits.{challenges_of};
+ghost use Rattle.check_judge.specs.Causes.{IsBusRefusalOr, IsSayingRefusal};
+ghost use Rattle.check_run.specs.RunRefusals.{IsCheckRefused, IsPlanRefused, IsShowRefused, IsTaskRefused};
+ghost use Rattle.check_run.specs.Runs.{AnswersOver, IsPlanned, IsShown, IsVerdict};
+ghost use Rattle.check_judge.specs.Said.{SayOver, airs_of};
+ghost use Rattle.language_meaning.specs.Buses.{distinct_buses};
+ghost use Rattle.language_meaning.specs.Lookups.{said_of};
+ghost use Rattle.lookup_text.specs.Batches.{section_of};
+
+use crate::answer::Answer;
+use crate::json::{push_airs_json, push_lookups_json, push_plan_json, push_report_json};
+use crate::reading::{batch_of, shapes_in, tables_in};
+use crate::witness::{accept, any, witness};
+use check_judge::{JudgeFault, TableField, airs_named, airs_of, judge, judge_plan, sets_over};
+use check_report::{
+    Given, Page, RunRefusal, Told, push_airs, push_lookups, push_plan, push_report, push_target,
+};
+use field_words::{Challenge, Written};
+use language_meaning::{AirShape, NamedAir, check_buses};
+use lookup_text::BatchText;
+use lookup_words::{FieldName, Task};
+use std::alloc::Global;
+
+/// How many unbalanced tuples of a bus are looked at for those that differ in one value.
+const MOST_COMPARED: usize = 64;
+
+/// The answer to a task over a field.
+pub(crate) fn answer_over<F: TableField, EF: Challenge<F>>(
+    alloc: Global,
+    given: Given<'_>,
+    field: FieldName,
+    task: Task<'_>,
+) -> Result<Answer, RunRefusal>
+    ensures { let E = ⟦<EF as Written<F>>⟧.fields in
+        let text = given.entry.text.now in
+        let files = map named_of given.entry.files.now in
+        MatchResult result (AnswersOver E text files F.number (challenges_of field) task.entry
+        given.entry.witness.now)
+        (λ e. (e ≡ RunRefusal.Memory) ⊎ IsTaskRefused E text files task.entry) }
+{
+    match task {
+        Task::Check {
+            limit,
+            degree,
+            json,
+        } => check::<F, EF>(alloc, given, field, limit, degree, json),
+        Task::Plan {
+            degree,
+            json,
+            target,
+        } => plan::<F, EF>(alloc, given, field, degree, json, target, false),
+        Task::Pack { degree, json } => {
+            plan::<F, EF>(alloc, given, field, degree, json, None, true)
+        }
+        Task::Show { json } => show::<F, EF>(alloc, given, json),
+        Task::Witness { challenges, .. } => witness::<F, EF>(alloc, given, field, challenges),
+        Task::Accept {
+            challenges,
+            witness,
+        } => accept::<F, EF>(alloc, given, field, challenges, witness),
+        Task::Any { challenges } => any::<F, EF>(alloc, given, field, challenges),
+    }
+}
+
+/// `check`: whether all balances, over a field.
+fn check<F: TableField, EF: Challenge<F>>(
+    alloc: Global,
+    given: Given<'_>,
+    field: FieldName,
+    limit: usize,
+    max_degree: usize,
+    json: bool,
+) -> Result<Answer, RunRefusal>
+    ensures { let E = ⟦<EF as Written<F>>⟧.fields in
+        let text = given.entry.text.now in
+        let files = map named_of given.entry.files.now in
+        MatchResult result (IsVerdict E text files F.number limit max_degree json)
+        (λ e. (e ≡ RunRefusal.Memory) ⊎ IsCheckRefused E text files max_degree) }
+{
+    let batch = batch_of(alloc, given)?;
+    let tables = tables_in(alloc, given, &batch, F::modulus())?;
+    let (text, most) = (given.text, limit.max(MOST_COMPARED));
+    match judge::<F, EF>(alloc, text, &batch, &tables, most, max_degree) {
+        Ok(report) => {
+            let mut page = Page::new(alloc);
+            let airs = airs_of(alloc, &batch)?;
+            let told = Told {
+                text,
+                batch: &batch,
+                airs: airs.as_slice(),
+                field,
+                limit,
+                max_degree,
+            };
+            if json {
+                push_report_json(&mut page, told, &report)?;
+            } else {
+                push_report(&mut page, told, &report)?;
+            }
+            Ok(Answer {
+                text: page.bytes,
+                yes: report.balanced,
+            })
+        }
+        Err(fault) => Err(RunRefusal::of_judge(alloc, given, &batch, fault)?),
+    }
+}
+
+/// `plan`: what holds before any trace is seen; and `pack`, which tells the AIRs alone.
+fn plan<F: TableField, EF: Challenge<F>>(
+    alloc: Global,
+    given: Given<'_>,
+    field: FieldName,
+    max_degree: usize,
+    json: bool,
+    target: Option<u64>,
+    airs_alone: bool,
+) -> Result<Answer, RunRefusal>
+    ensures { let E = ⟦<EF as Written<F>>⟧.fields in
+        let text = given.entry.text.now in
+        let files = map named_of given.entry.files.now in
+        MatchResult result (IsPlanned E text files max_degree (challenges_of field) target)
+        (λ e. (e ≡ RunRefusal.Memory) ⊎ IsPlanRefused E text files max_degree) }
+{
+    let batch = batch_of(alloc, given)?;
+    let shapes = shapes_in(alloc, given, &batch, F::modulus())?;
+    match judge_plan::<F, EF>(alloc, given.text, &batch, &shapes, max_degree) {
+        Ok(report) => {
+            let mut page = Page::new(alloc);
+            let airs = airs_of(alloc, &batch)?;
+            let told = Told {
+                text: given.text,
+                batch: &batch,
+                airs: airs.as_slice(),
+                field,
+                limit: 0,
+                max_degree,
+            };
+            let yes = report.for_all_traces().meets(field, target);
+            match (airs_alone, json) {
+                (true, true) => push_airs_json(&mut page, told, &report.airs)?,
+                (true, false) => push_airs(&mut page, told, &report.airs)?,
+                (false, true) => push_plan_json(&mut page, told, &report, target, yes)?,
+                (false, false) => {
+                    push_plan(&mut page, told, &report)?;
+                    push_target(&mut page, target, yes)?;
+                }
+            }
+            Ok(Answer {
+                text: page.bytes,
+                yes,
+            })
+        }
+        Err(fault) => Err(RunRefusal::of_judge(alloc, given, &batch, fault)?),
+    }
+}
+
+/// `show`: each lookup as it was understood, in words or in JSON.
+fn show<F: TableField, EF: Challenge<F>>(
+    alloc: Global,
+    given: Given<'_>,
+    json: bool,
+) -> Result<Answer, RunRefusal>
+    ensures { let E = ⟦<EF as Written<F>>⟧.fields in
+        let text = given.entry.text.now in
+        let files = map named_of given.entry.files.now in
+        MatchResult result (IsShown E text files)
+        (λ e. (e ≡ RunRefusal.Memory) ⊎ IsShowRefused E text files json) }
+{
+    let batch = batch_of(alloc, given)?;
+    let shapes = shapes_in(alloc, given, &batch, F::modulus())?;
+    let named = match named_in(alloc, given.text, &batch, &shapes) {
+        Ok(named) => named,
+        Err(fault) => return Err(RunRefusal::of_judge(alloc, given, &batch, fault)?),
+    };
+    let mut page = Page::new(alloc);
+    if !json {
+        push_lookups(&mut page, given.text, &batch, &shapes, &named)?;
+        return Ok(Answer::of_page(page));
+    }
+    match sets_over::<F>(alloc, given.text, &named) {
+        Ok(sets) => {
+            push_lookups_json(&mut page, given.text, &batch, &sets)?;
+            Ok(Answer::of_page(page))
+        }
+        Err(fault) => Err(RunRefusal::of_judge(alloc, given, &batch, fault)?),
+    }
+}
+
+/// What the items of each AIR say, once no bus is declared twice.
+fn named_in(
+    alloc: Global,
+    text: &[u8],
+    batch: &BatchText,
+    shapes: &[AirShape],
+) -> Result<Vec<NamedAir>, JudgeFault>
+    ensures { let sections = map section_of batch.now.sections.items in
+        let sizes = map shape_of shapes.now in
+        MatchResult result (λ v. (distinct_buses text.now sections ≡ Ok tt)
+        × SayOver text.now sections 1048576 (airs_of sections) sizes (map said_of v.items))
+        (λ e. (e ≡ JudgeFault.Memory)
+        ⊎ IsBusRefusalOr text.now sections (IsSayingRefusal text.now sections sizes) e) }
+{
+    check_buses(text, batch)?;
+    airs_named(alloc, text, batch, shapes)
+}

@@ -1,0 +1,423 @@
+//! Answers as JSON, one object on one line. Numbers that may be past 2^53 are texts, but for rows and targets.
+use check_judge::{AirReport, Deceiving, PlanReport, Report, TableField, airs_of};
+use check_report::{FIELDS, Page, Told, air_name, lookup_at, magnitude, trace_file};
+use language_meaning::bytes_of;
+use lookup::Lookups;
+use lookup::debug_util::{BusGroup, GroupName, Place, UnbalancedTuple};
+use lookup_text::{BatchText, place_of};
+use lookup_words::{BitsRequest, FieldName};
+use serde::Serialize;
+use std::alloc::{AllocError, Global};
+
+/// The version of these objects.
+const FORMAT: u32 = 1;
+
+/// `pack`.
+#[derive(Drop, Serialize)]
+struct AirsObject<'a> {
+    format: u32,
+    airs: Vec<AirObject<'a>>,
+}
+
+/// `plan`.
+#[derive(Drop, Serialize)]
+struct PlanObject<'a> {
+    format: u32,
+    field: &'static str,
+    airs: Vec<AirObject<'a>>,
+    height_sum: String,
+    characteristic: String,
+    ids: usize,
+    widest: usize,
+    heights: HeightsObject,
+    target: Option<u64>,
+    meets: Option<bool>,
+}
+
+/// `check`.
+#[derive(Drop, Serialize)]
+struct ReportObject<'a> {
+    format: u32,
+    field: &'static str,
+    airs: Vec<AirObject<'a>>,
+    height_sum: String,
+    characteristic: String,
+    ids: usize,
+    widest: usize,
+    heights: HeightsObject,
+    traces: TracesObject,
+    buses: Vec<BusObject<'a>>,
+    balanced: bool,
+}
+
+/// `bits`.
+#[derive(Drop, Serialize)]
+struct BitsObject {
+    format: u32,
+    messages: String,
+    unbalanced: String,
+    width: String,
+    bad_betas: Option<String>,
+    accepting_alphas: Option<String>,
+    fields: Vec<FieldObject>,
+    target: Option<u64>,
+    meets: Option<bool>,
+}
+
+/// An AIR. Its name is there if it is UTF-8.
+#[derive(Drop, Serialize)]
+struct AirObject<'a> {
+    name: Option<&'a str>,
+    rows: usize,
+    columns: usize,
+    weight: String,
+    degrees: &'a [usize],
+    packed_degrees: &'a [usize],
+    packed_lookups: &'a [Vec<usize>],
+}
+
+/// At how few challenges a batch is accepted, whatever traces of its heights are.
+#[derive(Drop, Serialize)]
+struct HeightsObject {
+    most_messages: String,
+    bad_betas: Option<String>,
+    accepting_alphas: Option<String>,
+    bits: Option<u32>,
+}
+
+/// The same of given traces.
+#[derive(Drop, Serialize)]
+struct TracesObject {
+    messages: String,
+    unbalanced: String,
+    bad_betas: Option<String>,
+    accepting_alphas: Option<String>,
+    bits: Option<u32>,
+}
+
+/// A bus, or a local lookup of an AIR.
+#[derive(Drop, Serialize)]
+struct BusObject<'a> {
+    name: Option<&'a str>,
+    air: Option<usize>,
+    lookup: Option<usize>,
+    sent: usize,
+    received: usize,
+    distinct: usize,
+    unbalanced: usize,
+    first: Vec<TupleObject<'a>>,
+}
+
+/// A tuple that does not balance.
+#[derive(Drop, Serialize)]
+struct TupleObject<'a> {
+    tuple: Vec<String>,
+    net: String,
+    place_count: usize,
+    places: Vec<PlaceObject<'a>>,
+}
+
+/// A place that sends or receives it.
+#[derive(Drop, Serialize)]
+struct PlaceObject<'a> {
+    air: usize,
+    lookup: usize,
+    row: usize,
+    count: String,
+    file: Option<&'a str>,
+    file_line: u64,
+    text_line: usize,
+}
+
+/// The bits that a field leaves.
+#[derive(Drop, Serialize)]
+struct FieldObject {
+    field: &'static str,
+    bits: Option<u32>,
+}
+
+/// An AIR as JSON has it: its name, if that is UTF-8, and its lookups.
+#[derive(Drop, Serialize)]
+struct ShownAir<'a, F> {
+    name: Option<&'a str>,
+    lookups: &'a Lookups<F>,
+}
+
+/// Appends an object on a line of its own.
+fn push_object<T: Serialize>(page: &mut Page, object: &T) -> Result<(), AllocError> {
+    match serde_json::to_string(page.alloc(), object) {
+        Ok(json) => page.word(json.as_str())?,
+        Err(_) => return Err(AllocError),
+    }
+    page.word("\n")
+}
+
+/// Appends the lookups of each AIR in the library's own form, as JSON on one line.
+pub(crate) fn push_lookups_json<F: Serialize>(
+    page: &mut Page,
+    text: &[u8],
+    batch: &BatchText,
+    sets: &[Lookups<F>],
+) -> Result<(), AllocError> {
+    let said = airs_of(page.alloc(), batch)?;
+    let mut airs = Vec::new(page.alloc());
+    for (air, lookups) in said.iter().zip(sets) {
+        let name = str::from_utf8(bytes_of(text, air.name)).ok();
+        airs.push(ShownAir { name, lookups })?;
+    }
+    push_object(page, &airs)
+}
+
+/// Appends the answer to `pack`.
+pub(crate) fn push_airs_json(
+    page: &mut Page,
+    told: Told<'_>,
+    airs: &[AirReport],
+) -> Result<(), AllocError> {
+    let object = AirsObject {
+        format: FORMAT,
+        airs: air_objects(page.alloc(), told, airs)?,
+    };
+    push_object(page, &object)
+}
+
+/// Appends the answer to `plan`, with a target and whether it is met.
+pub(crate) fn push_plan_json(
+    page: &mut Page,
+    told: Told<'_>,
+    report: &PlanReport,
+    target: Option<u64>,
+    is_met: bool,
+) -> Result<(), AllocError> {
+    let alloc = page.alloc();
+    let object = PlanObject {
+        format: FORMAT,
+        field: field_name(told.field),
+        airs: air_objects(alloc, told, &report.airs)?,
+        height_sum: decimal(alloc, report.height_sum)?,
+        characteristic: decimal(alloc, report.characteristic)?,
+        ids: report.ids,
+        widest: report.widest,
+        heights: heights_object(alloc, told.field, report)?,
+        target,
+        meets: target.map(|_| is_met),
+    };
+    push_object(page, &object)
+}
+
+/// Appends the answer to `check`.
+pub(crate) fn push_report_json<F: TableField>(
+    page: &mut Page,
+    told: Told<'_>,
+    report: &Report<F>,
+) -> Result<(), AllocError> {
+    let alloc = page.alloc();
+    let plan = &report.plan;
+    let mut buses = Vec::new(alloc);
+    for group in &report.groups {
+        buses.push(bus_object(alloc, told, group)?)?;
+    }
+    let object = ReportObject {
+        format: FORMAT,
+        field: field_name(told.field),
+        airs: air_objects(alloc, told, &plan.airs)?,
+        height_sum: decimal(alloc, plan.height_sum)?,
+        characteristic: decimal(alloc, plan.characteristic)?,
+        ids: plan.ids,
+        widest: plan.widest,
+        heights: heights_object(alloc, told.field, plan)?,
+        traces: traces_object(alloc, told.field, report)?,
+        buses,
+        balanced: report.balanced,
+    };
+    push_object(page, &object)
+}
+
+/// Appends the answer to `bits`.
+pub(crate) fn push_bits_json(
+    page: &mut Page,
+    request: BitsRequest,
+    is_met: bool,
+) -> Result<(), AllocError> {
+    let alloc = page.alloc();
+    let deceiving = Deceiving::of_request(request);
+    let mut fields = Vec::new(alloc);
+    for field in FIELDS {
+        fields.push(FieldObject {
+            field: field_name(field),
+            bits: deceiving.bits_in(field),
+        })?;
+    }
+    let (bad_betas, accepting_alphas) = bounds(alloc, deceiving)?;
+    let object = BitsObject {
+        format: FORMAT,
+        messages: decimal(alloc, u128::from(request.messages))?,
+        unbalanced: decimal(alloc, u128::from(request.unbalanced))?,
+        width: decimal(alloc, u128::from(request.width))?,
+        bad_betas,
+        accepting_alphas,
+        fields,
+        target: request.target,
+        meets: request.target.map(|_| is_met),
+    };
+    push_object(page, &object)
+}
+
+fn air_objects<'a>(
+    alloc: Global,
+    told: Told<'a>,
+    airs: &'a [AirReport],
+) -> Result<Vec<AirObject<'a>>, AllocError> {
+    let mut objects = Vec::new(alloc);
+    for (index, air) in airs.iter().enumerate() {
+        objects.push(AirObject {
+            name: str::from_utf8(air_name(told, index)).ok(),
+            rows: air.rows,
+            columns: air.columns,
+            weight: decimal(alloc, air.weight)?,
+            degrees: air.degrees.as_slice(),
+            packed_degrees: air.packed.as_slice(),
+            packed_lookups: air.packed_lookups.as_slice(),
+        })?;
+    }
+    Ok(objects)
+}
+
+fn heights_object(
+    alloc: Global,
+    field: FieldName,
+    report: &PlanReport,
+) -> Result<HeightsObject, AllocError> {
+    let deceiving = report.for_all_traces();
+    let (bad_betas, accepting_alphas) = bounds(alloc, deceiving)?;
+    Ok(HeightsObject {
+        most_messages: decimal(alloc, report.heights.most_messages)?,
+        bad_betas,
+        accepting_alphas,
+        bits: deceiving.bits_in(field),
+    })
+}
+
+fn traces_object<F>(
+    alloc: Global,
+    field: FieldName,
+    report: &Report<F>,
+) -> Result<TracesObject, AllocError> {
+    let deceiving = report.for_these_traces();
+    let (bad_betas, accepting_alphas) = bounds(alloc, deceiving)?;
+    Ok(TracesObject {
+        messages: decimal(alloc, report.counts.messages)?,
+        unbalanced: decimal(alloc, report.counts.unbalanced)?,
+        bad_betas,
+        accepting_alphas,
+        bits: deceiving.bits_in(field),
+    })
+}
+
+/// The bad betas and the accepting alphas as texts, or none if there is nothing to be wrong about.
+fn bounds(
+    alloc: Global,
+    deceiving: Deceiving,
+) -> Result<(Option<String>, Option<String>), AllocError> {
+    match deceiving.alphas {
+        Some(alphas) => {
+            let betas = decimal(alloc, deceiving.betas)?;
+            Ok((Some(betas), Some(decimal(alloc, alphas)?)))
+        }
+        None => Ok((None, None)),
+    }
+}
+
+fn bus_object<'a, F: TableField>(
+    alloc: Global,
+    told: Told<'a>,
+    group: &'a BusGroup<F>,
+) -> Result<BusObject<'a>, AllocError> {
+    let (name, air, lookup) = match &group.name {
+        GroupName::Bus(name) => (Some(name.as_str()), None, None),
+        GroupName::Local { instance, lookup } => (None, Some(*instance), Some(*lookup)),
+    };
+    let mut first = Vec::new(alloc);
+    for tuple in group.first.iter().take(told.limit) {
+        first.push(tuple_object(alloc, told, tuple)?)?;
+    }
+    Ok(BusObject {
+        name,
+        air,
+        lookup,
+        sent: group.sent,
+        received: group.received,
+        distinct: group.distinct,
+        unbalanced: group.unbalanced,
+        first,
+    })
+}
+
+fn tuple_object<'a, F: TableField>(
+    alloc: Global,
+    told: Told<'a>,
+    unbalanced: &UnbalancedTuple<F>,
+) -> Result<TupleObject<'a>, AllocError> {
+    let mut tuple = Vec::new(alloc);
+    for value in &unbalanced.tuple {
+        tuple.push(decimal(alloc, u128::from(value.as_number()))?)?;
+    }
+    let mut places = Vec::new(alloc);
+    for place in unbalanced.places.iter().take(told.limit) {
+        places.push(place_object(alloc, told, place)?)?;
+    }
+    Ok(TupleObject {
+        tuple,
+        net: signed(alloc, unbalanced.net)?,
+        place_count: unbalanced.place_count,
+        places,
+    })
+}
+
+fn place_object<'a, F: TableField>(
+    alloc: Global,
+    told: Told<'a>,
+    place: &Place<F>,
+) -> Result<PlaceObject<'a>, AllocError> {
+    let location = place.location;
+    let (mut file, mut text_line) = (None, 0);
+    if let Some(air) = told.airs.get(location.instance) {
+        if let Some(name) = trace_file(air, false) {
+            file = str::from_utf8(bytes_of(told.text, name)).ok();
+        }
+        if let Some(item) = lookup_at(air, location.lookup) {
+            text_line = place_of(told.text, item.at).line;
+        }
+    }
+    Ok(PlaceObject {
+        air: location.instance,
+        lookup: location.lookup,
+        row: location.row,
+        count: signed(alloc, place.count)?,
+        file,
+        file_line: (location.row as u64).saturating_add(2),
+        text_line,
+    })
+}
+
+/// A number as text.
+fn decimal(alloc: Global, number: u128) -> Result<String, AllocError> {
+    format!(in alloc; "{number}")
+}
+
+/// An element as text, with a sign where it is negative.
+fn signed<F: TableField>(alloc: Global, element: F) -> Result<String, AllocError> {
+    let sign = if element.is_negative() { "-" } else { "" };
+    let size = magnitude(element);
+    format!(in alloc; "{sign}{size}")
+}
+
+/// The name of a field, as `--field` takes it.
+fn field_name(field: FieldName) -> &'static str {
+    match field {
+        FieldName::F7 => "f7",
+        FieldName::BabyBear4 => "babybear4",
+        FieldName::KoalaBear4 => "koalabear4",
+        FieldName::Goldilocks2 => "goldilocks2",
+    }
+}

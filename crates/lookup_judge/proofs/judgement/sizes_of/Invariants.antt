@@ -1,7 +1,0 @@
-use Rattle.std.proofs.Common.{◌≡◌, map, take}
-use Rattle.lookup_judge.specs.Found.{sized_of}
-use Rattle.lookup_judge.specs.internal.Airs.{over_traced, size_of}
-use Rattle.lookup_judge.proofs.judgement.sizes_of.Given as goal
-
-abbrev pub invariant-loop-air : goal.invariant-loop-air
-invariant-loop-air g l = map size_of l.sizes.items ≡ map (λ air. sized_of (over_traced air)) (take l.air-index l.airs)

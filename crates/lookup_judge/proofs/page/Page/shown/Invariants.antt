@@ -1,6 +1,0 @@
-use Rattle.std.proofs.Common.{◌≡◌, ◌++◌, map, take}
-use Rattle.lookup_judge.specs.Told.{shown_byte}
-use Rattle.lookup_judge.proofs.page.Page.shown.Given as goal
-
-abbrev pub invariant-loop-byte : goal.invariant-loop-byte
-invariant-loop-byte l = l.self.bytes.items ≡ l.fn.self.bytes.items ++ map shown_byte (take l.byte-index l.bytes)
