@@ -4,11 +4,12 @@ import fcntl
 import os
 import re
 import shutil
-import signal
 import subprocess
 import sys
 import time
 
+from ends import at_end
+from files import sum_of_sources, text_of
 from kit import kit
 from lean import lean_kit
 from told import told
@@ -17,15 +18,8 @@ TOP = os.path.dirname(os.path.dirname(os.path.realpath(__file__)))
 # The crate that calls the program's code once for each field, the file of these calls, and such a call: an arm of a match.
 CALLER, CALLS = "lookup_program", "src/command.rt"
 CALL = re.compile(r'^ {8}"(\w+)" => (?:\{\n {12}answer_over::<.*\n {8}\}\n|answer_over::<.*\n)', re.MULTILINE)
-# The signals that tell a call to end.
-ENDS = (signal.SIGTERM, signal.SIGHUP, signal.SIGINT)
 # How many seconds pass between two lines on what is being done.
 PAUSE = 5
-
-
-def text_of(path):
-    with open(path, encoding="utf-8") as file:
-        return file.read()
 
 
 def fields_called():
@@ -49,13 +43,6 @@ def compile_in(room, program, field):
     crate.try_unproved(["--steps", "1"], [])
 
 
-def end(number, _):
-    """Ends this once, however often it is told to."""
-    for it in ENDS:
-        signal.signal(it, signal.SIG_IGN)
-    sys.exit(128 + number)
-
-
 class Refusal(Exception):
     """Why a program cannot be started, in words for the user."""
 
@@ -72,11 +59,6 @@ class Kept:
             if sys.stderr:
                 print(f"{self.program.replace('_', '-')}: {text}", file=sys.stderr, flush=True)
 
-    def sum(self):
-        """The sum of the sources."""
-        words = [f"{TOP}/tools/sources-sum", self.program]
-        return subprocess.run(words, check=True, stdout=subprocess.PIPE, text=True).stdout.strip()
-
     def path(self, of):
         return f"{self.folder}/{self.field or 'all'}-{of}"
 
@@ -85,7 +67,7 @@ class Kept:
 
     def ready(self):
         """The path of the program, which is compiled if it is not kept."""
-        of = self.sum()
+        of = sum_of_sources(self.program)
         lock = None if self.is_kept(of) else self.locked()
         self.say("this run is not proved: ./prove proves the program and builds it")
         if lock:
@@ -107,8 +89,7 @@ class Kept:
     def make(self, of, lock):
         """Compiles the program and keeps it in place of that of other sources, unless another call has done so. A signal
         to end this ends all that it started."""
-        for it in ENDS:
-            signal.signal(it, end)
+        at_end(lambda number: sys.exit(128 + number))
         try:
             fcntl.flock(lock, fcntl.LOCK_EX | fcntl.LOCK_NB)
         except BlockingIOError:
@@ -121,7 +102,7 @@ class Kept:
         os.mkdir(room)
         try:
             self.compile(room)
-            if self.sum() != of:
+            if sum_of_sources(self.program) != of:
                 raise Refusal("the sources changed while they were compiled: call it again")
             for name in os.listdir(self.folder):
                 if name.startswith(f"{self.field or 'all'}-"):
