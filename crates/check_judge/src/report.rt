@@ -2,8 +2,7 @@
 ghost use Rattle.std.specs.Prelude.{◌≡◌};
 
 use crate::bits::Deceiving;
-use batch::HeightSoundness;
-use checker::SoundnessCount;
+use batch::{HeightSoundness, SoundnessCount};
 use lookup::debug_util::BusGroup;
 
 /// What is found of an AIR.

@@ -7,10 +7,9 @@ ghost use Rattle.witness_text.specs.Lines.{IsTextOf};
 
 use crate::answer::Answer;
 use crate::opened::opened;
-use batch::{BatchError, GridCount};
+use batch::{BatchError, GridCount, Witness};
 use check_judge::{JudgeFault, TableField, traces_of};
 use check_report::{Given, Page, RunRefusal};
-use checker::Witness;
 use field::Field;
 use field_words::{Challenge, Written};
 use lookup_words::{ChallengeWords, FieldName};

@@ -1,7 +1,7 @@
 //! Witnesses as text, and the commands about them.
 use super::holds;
+use batch::Witness;
 use check_run::{Inputs, run};
-use checker::Witness;
 use field::F7;
 use language_meaning::NamedFile;
 use lookup_model::LookupTerminal;
