@@ -16,7 +16,7 @@ use Rattle.lookup_debug.specs.BusTable.{group_row, row_of}
 use Rattle.lookup_debug.specs.Contributions.{Traced}
 use Rattle.lookup_debug.specs.Groups.{groups}
 use Rattle.lookup_debug.specs.Mismatch.{AllBalance}
-use Rattle.lookup_debug.specs.Signs.{is_negative}
+use Rattle.field.specs.Signs.{is_negative}
 use Rattle.lookup.specs.Fewest.{AnswersDegree, HasFewestColumns}
 use Rattle.lookup.specs.KeptByPacking.{KeepsSent}
 use Rattle.lookup.specs.Lookups.{lookups_of}

@@ -7,11 +7,12 @@ ghost use Rattle.field.specs.ResidueRing.{residue_inverse, residue_ring};
 ghost use Rattle.field.specs.Ring.{sub_in};
 ghost use Rattle.field.specs.laws.PrimeResidues.{residue_domain, residue_inverse_is};
 ghost use Rattle.field.specs.laws.Residue.{residue_equality};
-ghost use Rattle.field.specs.laws.ResidueRing.{residue_characteristic, residue_ring_lawful};
+ghost use Rattle.field.specs.laws.ResidueRing.{residue_characteristic, residue_ring_lawful, value_is};
 ghost use Rattle.serde.specs.Event.{Sends, unsigned};
 ghost use Rattle.serde.specs.Steps.{Gives};
 
 use crate::reading::number_below;
+use crate::signed::SignedField;
 use crate::traits::{Domain, Field, PrimeCharacteristicRing};
 use serde::{
     Described, Deserialize, DeserializeOwned, Deserializer, Format, Serialize, Serializer,
@@ -209,6 +210,18 @@ impl<const P: u32, K: SmallPrimeParameters<P>> Field for SmallPrime<P, K> {
     }
 
     ghost inverse_is = { residue_inverse_is P K.positive K.prime };
+}
+
+impl<const P: u32, K: SmallPrimeParameters<P>> SignedField for SmallPrime<P, K> {
+    ghost number = { λ a. a.value };
+
+    ghost number_is = { value_is P K.positive };
+
+    ghost number_below = { λ a. a.below };
+
+    fn is_negative(self) -> bool {
+        2 * self.number() > P
+    }
 }
 
 impl<const P: u32, K: SmallPrimeParameters<P>> Described for SmallPrime<P, K> {

@@ -7,12 +7,12 @@ ghost use Rattle.field.specs.ResidueRing.{residue_inverse, residue_ring};
 ghost use Rattle.field_monty.specs.laws.Montgomery.{stored_equality};
 ghost use Rattle.field.specs.laws.PrimeResidues.{residue_domain, residue_inverse_is};
 ghost use Rattle.field_monty.specs.laws.QuarticField.{HasNoSquareRoot};
-ghost use Rattle.field.specs.laws.ResidueRing.{residue_characteristic, residue_ring_lawful};
+ghost use Rattle.field.specs.laws.ResidueRing.{residue_characteristic, residue_ring_lawful, value_is};
 ghost use Rattle.field.specs.Ring.{sub_in};
 ghost use Rattle.serde.specs.Event.{Sends, unsigned};
 ghost use Rattle.serde.specs.Steps.{Gives};
 
-use field::{Domain, Field, PrimeCharacteristicRing, number_below};
+use field::{Domain, Field, PrimeCharacteristicRing, SignedField, number_below};
 use serde::{
     Described, Deserialize, DeserializeOwned, Deserializer, Format, Serialize, Serializer,
 };
@@ -370,6 +370,18 @@ impl<const P: u32, K: MontyParameters<P>> Field for MontyField31<P, K> {
     }
 
     ghost inverse_is = { residue_inverse_is P K.positive K.right.prime };
+}
+
+impl<const P: u32, K: MontyParameters<P>> SignedField for MontyField31<P, K> {
+    ghost number = { λ a. a.value };
+
+    ghost number_is = { value_is P K.positive };
+
+    ghost number_below = { λ a. a.below };
+
+    fn is_negative(self) -> bool {
+        2 * self.as_canonical_u32() as u64 > P as u64
+    }
 }
 
 impl<const P: u32, K: MontyParameters<P>> Described for MontyField31<P, K> {

@@ -1,16 +1,17 @@
 //! The field of the integers modulo 2^64 - 2^32 + 1.
 ghost use Rattle.std.specs.Prelude.{◌≡◌, IfOk, ◌<◌, ◌≤◌, ◌+◌, ◌-◌, ◌*◌, ℕ, refl, decimal};
 ghost use Rattle.std.proofs.Common.{rules, arith};
-ghost use Rattle.goldilocks.specs.Goldilocks.{goldilocks_inverse, goldilocks_of, goldilocks_ring};
+ghost use Rattle.goldilocks.specs.Goldilocks.{goldilocks_inverse, goldilocks_of, goldilocks_positive, goldilocks_ring};
 ghost use Rattle.goldilocks.specs.laws.Goldilocks.{goldilocks_characteristic, goldilocks_domain, goldilocks_inverse_is, goldilocks_lawful, goldilocks_prime};
 ghost use Rattle.field.specs.Residue.{Residue};
 ghost use Rattle.field.specs.laws.Residue.{residue_equality};
+ghost use Rattle.field.specs.laws.ResidueRing.{value_is};
 ghost use Rattle.field.specs.Ring.{sub_in};
 ghost use Rattle.serde.specs.Event.{Sends, unsigned};
 ghost use Rattle.serde.specs.Steps.{Gives};
 
 use crate::reading::number_below;
-use field::{Domain, Field, PrimeCharacteristicRing};
+use field::{Domain, Field, PrimeCharacteristicRing, SignedField};
 use serde::{
     Described, Deserialize, DeserializeOwned, Deserializer, Format, Serialize, Serializer,
 };
@@ -259,6 +260,18 @@ impl Field for Goldilocks {
     }
 
     ghost inverse_is = { goldilocks_inverse_is };
+}
+
+impl SignedField for Goldilocks {
+    ghost number = { λ a. a.value };
+
+    ghost number_is = { value_is 18446744069414584321 goldilocks_positive };
+
+    ghost number_below = { λ a. a.below };
+
+    fn is_negative(self) -> bool {
+        2 * self.as_canonical_u64() as u128 > 18_446_744_069_414_584_321
+    }
 }
 
 impl Described for Goldilocks {

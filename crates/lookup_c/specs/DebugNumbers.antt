@@ -9,7 +9,7 @@ use Rattle.lookup_debug.specs.Contributions.{Traced}
 use Rattle.lookup_debug.specs.FirstUnbalanced.{IsFirstUnbalanced}
 use Rattle.lookup_debug.specs.Groups.{groups}
 use Rattle.lookup_debug.specs.Mismatch.{AllBalance}
-use Rattle.lookup_debug.specs.Signs.{is_negative}
+use Rattle.field.specs.Signs.{is_negative}
 use Rattle.lookup_debug.specs.declared.first_unbalanced.Mismatch.{Mismatch}
 use Rattle.lookup_debug.specs.declared.group_table.BusGroup.{BusGroup}
 use Rattle.lookup_tables.specs.declared.tables.Tables.{Tables}

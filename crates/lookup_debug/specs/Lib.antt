@@ -6,5 +6,4 @@ pub mod Fits
 pub mod Groups
 pub mod Mismatch
 pub mod SentContributions
-pub mod Signs
 pub mod internal

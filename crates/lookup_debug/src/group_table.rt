@@ -5,7 +5,7 @@ ghost use Rattle.lookup_debug.specs.BusTable.{group_row, row_of};
 ghost use Rattle.lookup_debug.specs.Contributions.{AreFitting, traced_of};
 ghost use Rattle.lookup_debug.specs.Groups.{groups};
 ghost use Rattle.lookup_debug.specs.Mismatch.{AllBalance};
-ghost use Rattle.lookup_debug.specs.Signs.{is_negative};
+ghost use Rattle.field.specs.Signs.{is_negative};
 ghost use Rattle.lookup_debug.specs.internal.GroupList.{IsWalkable, group_of};
 ghost use Rattle.lookup_model.specs.Records.{LookupsFit};
 
@@ -13,10 +13,9 @@ use crate::arena::nets;
 use crate::instance::LookupDebugInstance;
 use crate::named_group::{GroupAt, GroupName, groups_of, name_of, walk_group};
 use crate::places::tuples_with_places;
-use crate::sign::SignedField;
 use crate::tally::Tally;
 use crate::unbalanced::UnbalancedTuple;
-use field::Field;
+use field::{Field, SignedField};
 use indexmap::IndexMap;
 use std::alloc::{AllocError, Global};
 

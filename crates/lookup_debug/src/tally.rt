@@ -1,14 +1,14 @@
 //! The first walk of the table of groups: what is contributed, and how much of it is sent and received.
 ghost use Rattle.std.specs.Prelude.{◌≡◌, ◌≤◌, [], drop, length, map};
-ghost use Rattle.lookup_debug.specs.Signs.{is_negative};
+ghost use Rattle.field.specs.Signs.{is_negative};
 ghost use Rattle.lookup_debug.specs.internal.Arena.{AreWithin, amounts_in};
 ghost use Rattle.lookup_debug.specs.internal.Tallies.{AreSignCounts, IsReady, Tallies, tallies_walk};
 
 use crate::arena::{Contributions, merge_at_limit};
 use crate::contributions::push_on_row;
 use crate::fault::Location;
-use crate::sign::SignedField;
 use crate::walk::RowVisitor;
+use field::SignedField;
 use lookup_model::Lookup;
 use lookup_rows::LookupTraceBuilder;
 use std::alloc::{AllocError, Global};

@@ -6,7 +6,7 @@ use Rattle.batch.specs.Traces.{view_of}
 use Rattle.field.specs.Ring.{of_nat}
 use Rattle.lookup_debug.specs.BusTable.{row_of}
 use Rattle.lookup_debug.specs.Contributions.{Traced, traced_of}
-use Rattle.lookup_debug.specs.Signs.{is_negative}
+use Rattle.field.specs.Signs.{is_negative}
 use Rattle.language_meaning.specs.Tables.{tables_of}
 use Rattle.lookup_text.specs.Batches.{section_of}
 use Rattle.check_judge.specs.Causes.{IsReportRefusal}

@@ -4,7 +4,7 @@ use Rattle.lists.proofs.Images.{images_more, map-map}
 use Rattle.lookup_debug.specs.BusTable.{group_row, row_of}
 use Rattle.lookup_debug.specs.Contributions.{traced_of}
 use Rattle.lookup_debug.specs.Groups.{groups}
-use Rattle.lookup_debug.specs.Signs.{is_negative}
+use Rattle.field.specs.Signs.{is_negative}
 use Rattle.lookup_debug.specs.internal.GroupList.{group_of}
 use Rattle.lookup_debug.proofs.BalanceLaws.{rows_balance}
 use Rattle.lookup_debug.proofs.group_table.bus_table.Goals as goal

@@ -1,7 +1,7 @@
 use Rattle.std.proofs.Common.{◌≡◌, map, take}
 use Rattle.lookup_debug.specs.BusTable.{group_row, row_of}
 use Rattle.lookup_debug.specs.Contributions.{traced_of}
-use Rattle.lookup_debug.specs.Signs.{is_negative}
+use Rattle.field.specs.Signs.{is_negative}
 use Rattle.lookup_debug.specs.internal.GroupList.{group_of}
 use Rattle.lookup_debug.proofs.group_table.bus_table.Given as goal
 

@@ -1,7 +1,7 @@
 use Rattle.std.proofs.Common.{[], ap, map, ◌∙◌}
 use Rattle.lookup_debug.specs.BusTable.{distinct_tuples, received_count, sent_count, unbalanced_tuples}
 use Rattle.lookup_debug.specs.Contributions.{traced_of}
-use Rattle.lookup_debug.specs.Signs.{is_negative}
+use Rattle.field.specs.Signs.{is_negative}
 use Rattle.lookup_debug.specs.internal.GroupList.{group_of}
 use Rattle.lookup_debug.specs.internal.Nets.{amount_nets, tuple_entries}
 use Rattle.lookup_debug.specs.internal.Places.{placed_entry}

@@ -1,5 +1,5 @@
 use Rattle.std.proofs.Common.{drop, map, take}
-use Rattle.lookup_debug.specs.Signs.{is_negative}
+use Rattle.field.specs.Signs.{is_negative}
 use Rattle.lookup_debug.specs.internal.Tallies.{AreSignCounts}
 use Rattle.lookup_debug.proofs.tally.sign_counts.Given as goal
 

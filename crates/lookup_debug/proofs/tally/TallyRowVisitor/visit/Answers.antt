@@ -3,7 +3,7 @@ use Rattle.std.proofs.lemmas.Result.{on_ok_weaker}
 use Rattle.lookup_rows.specs.TraceBuilder.{builder_window}
 use Rattle.lookup_debug.specs.BusTable.{capped}
 use Rattle.lookup_debug.specs.Contributions.{contributions_at, location_of}
-use Rattle.lookup_debug.specs.Signs.{is_negative}
+use Rattle.field.specs.Signs.{is_negative}
 use Rattle.lookup_debug.specs.internal.Arena.{amounts_in}
 use Rattle.lookup_debug.specs.internal.Tallies.{AreSignCounts}
 use Rattle.lookup_debug.proofs.AmountNets.{nets_go_on}
