@@ -1,5 +1,5 @@
 ghost use Rattle.std.specs.Prelude.{◌≢◌, IfOk, All};
-ghost use Rattle.field.specs.IntegersModulo7.{f7_ring};
+ghost use Rattle.field.specs.internal.IntegersModulo7.{f7_ring};
 
 use crate::cases::{holds, holds_at};
 use field::{

@@ -1,7 +1,7 @@
 -- Integers modulo 2.
 use Rattle.std.specs.Prelude.{◌≡◌, ◌≢◌}
 use Rattle.std.proofs.Common.{arith}
-use Rattle.field.specs.IntegersModulo2.{f2_of, f2_ring}
+use Rattle.field.specs.internal.IntegersModulo2.{f2_of, f2_ring}
 use Rattle.field.specs.Residue.{Residue, residue_same}
 
 -- One that is not zero is one.

@@ -2,7 +2,7 @@
 use Rattle.std.specs.Prelude.{◌≡◌, ◌≢◌, ◌<◌, ◌%◌, ℕ, [], ◌∷◌, All}
 use Rattle.std.proofs.Common.{sym, ap, ◌∙◌, arith}
 use Rattle.std.proofs.lemmas.List.Elements.{All-from_recursion}
-use Rattle.field.specs.IntegersModulo7.{f7_of, f7_ring}
+use Rattle.field.specs.internal.IntegersModulo7.{f7_of, f7_ring}
 use Rattle.field.specs.Residue.{Residue}
 
 -- A residue of a number that 7 does not divide is not zero.

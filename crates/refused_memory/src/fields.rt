@@ -1,6 +1,6 @@
 //! Calls of fields.
 ghost use Rattle.std.specs.Prelude.{◌≢◌, All};
-ghost use Rattle.field.specs.IntegersModulo7.{f7_ring};
+ghost use Rattle.field.specs.internal.IntegersModulo7.{f7_ring};
 
 use crate::trees::nodes;
 use field::{

@@ -1,7 +1,7 @@
 //! Generation over a domain that is no field, by an inverter made for it.
 ghost use Rattle.std.specs.Prelude.{◌≡◌, ◌<◌, refl};
 ghost use Rattle.std.proofs.Common.{rules, arith};
-ghost use Rattle.field.specs.IntegersModulo2.{f2_of, f2_positive, f2_ring};
+ghost use Rattle.field.specs.internal.IntegersModulo2.{f2_of, f2_positive, f2_ring};
 ghost use Rattle.field.specs.laws.IntegersModulo2.{f2_prime};
 ghost use Rattle.field.specs.laws.PrimeResidues.{residue_domain};
 ghost use Rattle.field.specs.Residue.{Residue};
@@ -26,7 +26,7 @@ struct Bit {
 impl Model for Bit {
     ghost use Rattle.std.specs.Prelude.{◌<◌};
     ghost use native.Mathlib.Nat.{mod-eq_of_lt};
-    ghost use Rattle.field.specs.IntegersModulo2.{f2_of};
+    ghost use Rattle.field.specs.internal.IntegersModulo2.{f2_of};
     ghost use Rattle.field.specs.Residue.{Residue, residue_coded};
 
     ghost Value = { Residue 2 };

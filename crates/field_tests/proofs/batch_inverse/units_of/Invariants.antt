@@ -1,5 +1,5 @@
 use Rattle.std.proofs.Common.{◌≢◌, All}
-use Rattle.field.specs.IntegersModulo7.{f7_ring}
+use Rattle.field.specs.internal.IntegersModulo7.{f7_ring}
 use Rattle.field_tests.proofs.batch_inverse.units_of.Given as goal
 
 abbrev pub invariant-loop-n : goal.invariant-loop-n

@@ -1,4 +1,4 @@
-use Rattle.field.specs.IntegersModulo7.{f7_positive}
+use Rattle.field.specs.internal.IntegersModulo7.{f7_positive}
 use Rattle.field_words.proofs.WordLaws.{residue-written}
 use Rattle.field_words.proofs.challenge.F7Challenge.from_word.Goals as goal
 

@@ -1,4 +1,4 @@
-use Rattle.field.specs.IntegersModulo2.{f2_positive}
+use Rattle.field.specs.internal.IntegersModulo2.{f2_positive}
 use Rattle.field.specs.laws.ResidueRing.{residue_of_mod}
 use Rattle.generation_tests.proofs.tests.domains.Bit.new.Goals as goal
 

@@ -1,5 +1,5 @@
 use Rattle.std.proofs.Common.{ap, ◌∙◌}
-use Rattle.field.specs.IntegersModulo2.{f2_positive, f2_ring}
+use Rattle.field.specs.internal.IntegersModulo2.{f2_positive, f2_ring}
 use Rattle.field.specs.laws.IntegersModulo2.{f2_inverse_self, f2_prime}
 use Rattle.field.specs.laws.PrimeResidues.{residue_inverse_is}
 use Rattle.field.proofs.Tests.{refuted}

@@ -1,5 +1,5 @@
 use Rattle.std.proofs.Common.{sym, ◌∙◌}
-use Rattle.field.specs.IntegersModulo2.{f2_positive}
+use Rattle.field.specs.internal.IntegersModulo2.{f2_positive}
 use Rattle.field.specs.laws.ResidueRing.{of_nat_is}
 use Rattle.generation_tests.proofs.tests.domains.BitPrimeCharacteristicRing.from_u32.Goals as goal
 
