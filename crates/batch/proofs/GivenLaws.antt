@@ -23,8 +23,8 @@ use Rattle.lookup.specs.declared.lookups.Lookups.{Lookups}
 use Rattle.batch.proofs.Greatest.{greatest_append}
 use Rattle.batch.proofs.SharedBuses.{Entry, apart_pairs, joined_pairs, shared}
 use Rattle.batch.specs.Lists.{lists_of}
-use Rattle.batch.specs.Order.{AreInOrder, bus_at, next_id, same_bus}
-use Rattle.batch.specs.PlanFacts.{assigned}
+use Rattle.batch.specs.Order.{AreInOrder, bus_of_numbered, next_id, same_bus}
+use Rattle.batch.specs.PlanFacts.{lookups_with_ids}
 use Rattle.batch.specs.declared.ids.GivenIds.{GivenIds}
 use Rattle.batch.specs.internal.Numbering.{AreGivenInOrder, IsBusId, IsKnown}
 
@@ -56,7 +56,7 @@ module _ {F : Type 0} where
 
     module _ (m : ℕ) (order : AreInOrder all m) where
       -- a lookup that shares no bus with an earlier one has the next id
-      fresh : a.0 ≡ m → ((k : ℕ) (d : Entry F) → k < length all → ¬ IsTrue (same_bus (bus_at (get_or all k d)) (bus_at a))) → AreInOrder more (m + 1)
+      fresh : a.0 ≡ m → ((k : ℕ) (d : Entry F) → k < length all → ¬ IsTrue (same_bus (bus_of_numbered (get_or all k d)) (bus_of_numbered a))) → AreInOrder more (m + 1)
       fresh is apart = record {
         buses = apart_pairs all a order.buses (λ k d lt same. absurd (omega (arith, same, below_next all k d lt, is, order.count))) apart;
         steps = steps_more order.steps (omega (arith, is, order.count));
@@ -64,7 +64,7 @@ module _ {F : Type 0} where
       }
 
       -- a lookup on the bus of an earlier one has its id
-      joined : (name : List ℕ) (j : ℕ) → j < length all → HoldsAt (λ b. (bus_at b ≡ Some name) × (b.0 ≡ a.0)) all j → bus_at a ≡ Some name → AreInOrder more m
+      joined : (name : List ℕ) (j : ℕ) → j < length all → HoldsAt (λ b. (bus_of_numbered b ≡ Some name) × (b.0 ≡ a.0)) all j → bus_of_numbered a ≡ Some name → AreInOrder more m
       joined name j here known on =
           let low : a.0 < next_id all = omega (arith, below_next all j a here, (known a).1) in
           record {
@@ -74,17 +74,17 @@ module _ {F : Type 0} where
           }
 
     -- what is known of a name stays, unless the lookup is on its bus
-    pub still_known : (name : List ℕ) (o : Option ℕ) → bus_at a ≢ Some name → IsKnown all name o → IsKnown more name o
-    still_known name None other none = All-push (λ b. bus_at b ≢ Some name) all a none other
+    pub still_known : (name : List ℕ) (o : Option ℕ) → bus_of_numbered a ≢ Some name → IsKnown all name o → IsKnown more name o
+    still_known name None other none = All-push (λ b. bus_of_numbered b ≢ Some name) all a none other
     still_known name (Some id) other (k, lt, known) =
-        (k, omega (arith, lt, length_push all a), λ d. subst (λ (b : Entry F). (bus_at b ≡ Some name) × (b.0 ≡ id)) (sym (get_or_append_left all (a ∷ []) d k lt)) (known d))
+        (k, omega (arith, lt, length_push all a), λ d. subst (λ (b : Entry F). (bus_of_numbered b ≡ Some name) × (b.0 ≡ id)) (sym (get_or_append_left all (a ∷ []) d k lt)) (known d))
 
-    now_known : (name : List ℕ) → bus_at a ≡ Some name → IsKnown more name (Some a.0)
+    now_known : (name : List ℕ) → bus_of_numbered a ≡ Some name → IsKnown more name (Some a.0)
     now_known name on =
-        (length all, omega (arith, length_push all a), λ d. subst (λ (b : Entry F). (bus_at b ≡ Some name) × (b.0 ≡ a.0)) (sym (get_or_push all a d (length all) refl)) (on, refl))
+        (length all, omega (arith, length_push all a), λ d. subst (λ (b : Entry F). (bus_of_numbered b ≡ Some name) × (b.0 ≡ a.0)) (sym (get_or_push all a d (length all) refl)) (on, refl))
 
     -- where a map has the id of each name, it has it with one lookup more on a bus
-    pub known_more : (name : Bor (List ℕ)) → bus_at a ≡ Some name.now → (old new : List (Bor (List ℕ) × ℕ)) → new ≡ insert_entry (λ b c. same_name b.now c.now) old name a.0
+    pub known_more : (name : Bor (List ℕ)) → bus_of_numbered a ≡ Some name.now → (old new : List (Bor (List ℕ) × ℕ)) → new ≡ insert_entry (λ b c. same_name b.now c.now) old name a.0
         → ((q : List ℕ) → IsKnown all q (lookup (λ k. same_name q k.now) old)) → (q : List ℕ) → IsKnown more q (lookup (λ k. same_name q k.now) new)
     known_more name on old new new_is known q =
         subst (IsKnown more q) (sym (ap (λ es. lookup (λ k. same_name q k.now) es) new_is ∙ at_inserted (λ k. k.now) old name a.0 q)) (by_name (same_name q name.now) refl)
@@ -99,20 +99,20 @@ module _ {F : Type 0} (all : List (Entry F)) (before after : GivenIds) (given : 
   id_in name entries = lookup (λ k. same_name name k.now) entries
 
   -- a local lookup
-  pub local_given : bus_at a ≡ None → (a.0 ≡ before.next) × (after.next ≡ a.0 + 1) × (after.names.entries ≡ before.names.entries) → AreGivenInOrder (all ++ a ∷ []) after
+  pub local_given : bus_of_numbered a ≡ None → (a.0 ≡ before.next) × (after.next ≡ a.0 + 1) × (after.names.entries ≡ before.names.entries) → AreGivenInOrder (all ++ a ∷ []) after
   local_given none is = record {
     in_order = subst (AreInOrder (all ++ a ∷ [])) (omega (arith, is.0, is.1))
-        (fresh all a before.next given.in_order is.0 (λ k d lt t. let (name, one, other) = shared (bus_at (get_or all k d)) (bus_at a) t in cc (sym none ∙ other)));
+        (fresh all a before.next given.in_order is.0 (λ k d lt t. let (name, one, other) = shared (bus_of_numbered (get_or all k d)) (bus_of_numbered a) t in cc (sym none ∙ other)));
     names = λ name. subst (λ (es : List (Bor (List ℕ) × ℕ)). IsKnown (all ++ a ∷ []) name (id_in name es)) (sym is.2)
         (still_known all a name (id_in name before.names.entries) (λ on. absurd (cc (sym none ∙ on))) (given.names name));
   }
 
   -- a lookup on a bus
-  module _ (name : Bor (List ℕ)) (on : bus_at a ≡ Some name.now) (is : IsBusId name before after a.0) where
+  module _ (name : Bor (List ℕ)) (on : bus_of_numbered a ≡ Some name.now) (is : IsBusId name before after a.0) where
     order_more : (o : Option ℕ) → a.0 ≡ unwrap_or o before.next → IsKnown all name.now o → AreInOrder (all ++ a ∷ []) after.next
     order_more None id none =
         subst (AreInOrder (all ++ a ∷ [])) (sym (is.is_new id))
-        (fresh all a before.next given.in_order id (λ k d lt t. let (other, of_x, of_a) = shared (bus_at (get_or all k d)) (bus_at a) t in none k d lt (of_x ∙ sym of_a ∙ on)))
+        (fresh all a before.next given.in_order id (λ k d lt t. let (other, of_x, of_a) = shared (bus_of_numbered (get_or all k d)) (bus_of_numbered a) t in none k d lt (of_x ∙ sym of_a ∙ on)))
     order_more (Some v) id (j, here, known) =
         let low : a.0 < before.next = omega (arith, below_next all j a here, (known a).1, id, given.in_order.count) in
         subst (AreInOrder (all ++ a ∷ [])) (sym (is.is_old (λ same. absurd (omega (arith, same, low)))))
@@ -139,14 +139,14 @@ module _ {F : Type 0} (lists more : List (Vec ℕ Global)) (airs : List (Lookups
   ids_are : lists_of more ≡ lists_of lists ++ i.items ∷ []
   ids_are = ap lists_of more_is ∙ map_push (λ (l : Vec ℕ Global). l.items) lists i
 
-  pub more_given : (lookups : List (Lookup F)) → lookups ≡ lookups_of air → AreGivenInOrder (assigned (lists_of lists) (take n airs) ++ zip i.items lookups) after → AreGivenInOrder (assigned (lists_of more) (take (n + 1) airs)) after
+  pub more_given : (lookups : List (Lookup F)) → lookups ≡ lookups_of air → AreGivenInOrder (lookups_with_ids (lists_of lists) (take n airs) ++ zip i.items lookups) after → AreGivenInOrder (lookups_with_ids (lists_of more) (take (n + 1) airs)) after
   more_given lookups are given =
       let entries = λ (p : List ℕ × Lookups F). zip p.0 (lookups_of p.1) in
       let same : length (lists_of lists) ≡ length (take n airs) = same_length length (λ a. length (lookups_of a)) (lists_of lists) (take n airs) as_many in
       subst (λ (xs : List (Entry F)). AreGivenInOrder xs after)
-      (ap (λ ls. assigned (lists_of lists) (take n airs) ++ zip i.items ls) are
-      ∙ sym ((λ j. assigned (ids_are j) (take_item airs n air lt is j)) ∙ ap (flat_map entries) (zip_push (lists_of lists) (take n airs) i.items air same)
-      ∙ flat_map-append entries (zip (lists_of lists) (take n airs)) ((i.items, air) ∷ []) ∙ ap (λ t. assigned (lists_of lists) (take n airs) ++ t) (append-nil (entries (i.items, air))))) given
+      (ap (λ ls. lookups_with_ids (lists_of lists) (take n airs) ++ zip i.items ls) are
+      ∙ sym ((λ j. lookups_with_ids (ids_are j) (take_item airs n air lt is j)) ∙ ap (flat_map entries) (zip_push (lists_of lists) (take n airs) i.items air same)
+      ∙ flat_map-append entries (zip (lists_of lists) (take n airs)) ((i.items, air) ∷ []) ∙ ap (λ t. lookups_with_ids (lists_of lists) (take n airs) ++ t) (append-nil (entries (i.items, air))))) given
 
   pub more_as_many : length i.items ≡ length (lookups_of air) → map length (lists_of more) ≡ map (λ a. length (lookups_of a)) (take (n + 1) airs)
   more_as_many long =

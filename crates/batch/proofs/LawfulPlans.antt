@@ -3,7 +3,7 @@ use Rattle.std.proofs.Common.{◌≡◌, ◌↔◌, ◌<◌, ◌≤◌, ◌++◌
 use Rattle.std.proofs.lemmas.List.Elements.{All-from_recursion}
 use Rattle.std.specs.List.{AllByRecursion, AllPairs, flat_map, zip}
 use Rattle.lists.proofs.Each.{all_of_map, all_parts, all_weaker}
-use Rattle.lookup_model.specs.Batches.Ids.{AreLawfulIds, HaveOneWidth, ShareBus, identified}
+use Rattle.lookup_model.specs.Batches.Ids.{AreLawfulIds, HaveOneWidth, ShareBus, batch_lookups_with_ids}
 use Rattle.lookup_model.specs.Batches.Instances.{Instance}
 use Rattle.lookup_model.specs.LookupDegree.{greatest}
 use Rattle.lookup_model.specs.Outline.{bus_of}
@@ -14,7 +14,7 @@ use Rattle.batch.proofs.GivenLaws.{below_next}
 use Rattle.batch.proofs.Greatest.{each_below}
 use Rattle.batch.proofs.OneWidths.{all_assigned}
 use Rattle.batch.proofs.SharedBuses.{share, shared}
-use Rattle.batch.specs.PlanFacts.{AreAssigned, AreNumbered, IsPlan, all_tuple_widths, assigned, lookup_widths}
+use Rattle.batch.specs.PlanFacts.{AreAssigned, AreNumbered, IsPlan, all_tuple_widths, lookups_with_ids, lookup_widths}
 use Rattle.batch.specs.Plans.{Plan}
 use Rattle.batch.specs.Traces.{batch_over}
 use Rattle.batch.specs.declared.trace.BatchTrace.{BatchTrace}
@@ -35,7 +35,7 @@ module _ {F : Type 0} (most : ℕ) where
       airs (all_parts Small (λ air. flat_map lookup_widths (lookups_of air)) airs (each_below most (all_tuple_widths airs) le)))
 
 -- the lookups of a batch over a plan, with their ids
-pub identified_is : {F : Type 0} (ids : List (List ℕ)) (airs : List (Lookups F)) (traces : List (BatchTrace F)) → length ids ≡ length airs → length traces ≡ length airs → identified (batch_over ids airs traces) ≡ assigned ids airs
+pub identified_is : {F : Type 0} (ids : List (List ℕ)) (airs : List (Lookups F)) (traces : List (BatchTrace F)) → length ids ≡ length airs → length traces ≡ length airs → batch_lookups_with_ids (batch_over ids airs traces) ≡ lookups_with_ids ids airs
 identified_is [] [] traces same as_many = refl
 identified_is (i ∷ is) (air ∷ airs) (t ∷ ts) same as_many = ap (λ rest. zip i (lookups_of air) ++ rest) (identified_is is airs ts (omega (arith, same)) (omega (arith, as_many)))
 identified_is ids airs traces same as_many = absurd (omega arith)
@@ -46,14 +46,14 @@ numbered_assigned ids airs m numbered = record {
   as_many = numbered.as_many;
   by_bus = record {
     buses = numbered.in_order.buses;
-    below = λ k d lt. omega (arith, below_next (assigned ids airs) k d lt, numbered.in_order.count);
+    below = λ k d lt. omega (arith, below_next (lookups_with_ids ids airs) k d lt, numbered.in_order.count);
   };
 }
 
 -- A plan's ids are lawful in every batch with its lookups and ids.
-pub lawful_plan : {F : Type 0} (p : ℕ) (plan : Plan F) → IsPlan p plan → (batch : List (Instance F)) → identified batch ≡ assigned plan.ids plan.airs → AreLawfulIds plan.width plan.num_ids p batch
+pub lawful_plan : {F : Type 0} (p : ℕ) (plan : Plan F) → IsPlan p plan → (batch : List (Instance F)) → batch_lookups_with_ids batch ≡ lookups_with_ids plan.ids plan.airs → AreLawfulIds plan.width plan.num_ids p batch
 lawful_plan {F} p plan facts batch same =
-    let all = assigned plan.ids plan.airs in
+    let all = lookups_with_ids plan.ids plan.airs in
     record {
       buses = subst (AllPairs (λ a b. (a.0 ≡ b.0) ↔ ShareBus a.1 b.1)) (sym same)
           (λ i j d before within.

@@ -19,8 +19,8 @@ use Rattle.lookup.specs.declared.lookups.Lookups.{Lookups}
 use Rattle.batch.proofs.Members.{of_found, of_kept}
 use Rattle.batch.proofs.SharedBuses.{Entry, one_or_shared}
 use Rattle.batch.specs.Checks.{AreLocallyEven, IsLocallyEven, bus_widths_of}
-use Rattle.batch.specs.Order.{bus_at}
-use Rattle.batch.specs.PlanFacts.{AreAssigned, assigned}
+use Rattle.batch.specs.Order.{bus_of_numbered}
+use Rattle.batch.specs.PlanFacts.{AreAssigned, lookups_with_ids}
 
 module _ {F : Type 0} where
   -- what holds of the widths on the buses of an AIR holds of those of each lookup on a bus
@@ -54,7 +54,7 @@ module _ {F : Type 0} where
       airs (all_of_map (λ os. AllByRecursion Agrees (named_widths os)) outlines airs (all_parts Agrees named_widths (map outlines airs) all)))
 
   -- what holds of all lookups of all AIRs holds of them with their ids
-  pub all_assigned : (P : Lookup F → Type 0) (ids : List (List ℕ)) (airs : List (Lookups F)) → All (λ air. All P (lookups_of air)) airs → AllByRecursion (λ a. P a.1) (assigned ids airs)
+  pub all_assigned : (P : Lookup F → Type 0) (ids : List (List ℕ)) (airs : List (Lookups F)) → All (λ air. All P (lookups_of air)) airs → AllByRecursion (λ a. P a.1) (lookups_with_ids ids airs)
   all_assigned P ids airs all =
       let OfAir = λ (air : Lookups F). All P (lookups_of air) in
       all_joined (λ a. P a.1) (λ p. zip p.0 (lookups_of p.1)) (zip ids airs)
@@ -68,17 +68,17 @@ module _ {F : Type 0} where
   -- Where the widths on buses agree, and those of each local lookup, all tuples under one id have the
   -- same width.
   pub one_widths : (ids : List (List ℕ)) (airs : List (Lookups F)) (m : ℕ) → AreAssigned ids airs m → AgreeOnWidths (bus_widths_of airs) → AreLocallyEven airs
-      → All (λ a. All (λ b. a.0 ≡ b.0 → HaveOneWidth a.1 b.1) (assigned ids airs)) (assigned ids airs)
+      → All (λ a. All (λ b. a.0 ≡ b.0 → HaveOneWidth a.1 b.1) (lookups_with_ids ids airs)) (lookups_with_ids ids airs)
   one_widths ids airs m lawful agree even k d lt j e within same =
       let a = get_or all k d in
       let b = get_or all j e in
       elim (one_or_shared all lawful.by_bus.buses a b (Contains-get_or all k d lt) (Contains-get_or all j e within) same) [
-        | inl one ↦ subst (λ (c : Entry F). HaveOneWidth a.1 c.1) one (itself a (wide k d lt) (local k d lt) (bus_at a) refl)
+        | inl one ↦ subst (λ (c : Entry F). HaveOneWidth a.1 c.1) one (itself a (wide k d lt) (local k d lt) (bus_of_numbered a) refl)
         | inr (name, of_a, of_b) ↦ on_one a.1 b.1 name (wide k d lt name of_a) (wide j e within name of_b)
       ]
     where
       all : List (Entry F)
-      all = assigned ids airs
+      all = lookups_with_ids ids airs
 
       widths : List (List ℕ × ℕ)
       widths = bus_widths_of airs
@@ -92,6 +92,6 @@ module _ {F : Type 0} where
       on_one : (a b : Lookup F) (name : List ℕ) → All (λ tuple. first_width widths name ≡ Some (length tuple.items)) a.elements.items → All (λ tuple. first_width widths name ≡ Some (length tuple.items)) b.elements.items → HaveOneWidth a b
       on_one a b name of_a of_b i d lt j e within = cc (sym (of_a i d lt) ∙ of_b j e within)
 
-      itself : (a : Entry F) → IsOnWidth widths a.1 → IsLocallyEven a.1 → (o : Option (List ℕ)) → bus_at a ≡ o → HaveOneWidth a.1 a.1
+      itself : (a : Entry F) → IsOnWidth widths a.1 → IsLocallyEven a.1 → (o : Option (List ℕ)) → bus_of_numbered a ≡ o → HaveOneWidth a.1 a.1
       itself a on even None is = let (width, each) = even is in λ i d lt j e within. each i d lt ∙ sym (each j e within)
       itself a on even (Some name) is = on_one a.1 a.1 name (on name is) (on name is)

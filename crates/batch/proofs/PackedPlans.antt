@@ -30,13 +30,13 @@ use Rattle.lookup.specs.Lookups.{lookups_of}
 use Rattle.lookup.specs.Packing.{is_additive}
 use Rattle.lookup.specs.declared.lookups.Lookups.{Lookups}
 use Rattle.checker_batches.specs.Packed.{ArePacked}
-use Rattle.checker_batches.specs.Renamed.{IsInjective, renamed}
+use Rattle.checker_batches.specs.Renamed.{IsInjective, renamed_instance}
 use Rattle.batch.proofs.Greatest.{each_below, least}
 use Rattle.batch.proofs.PairedLookups.{HasBusId, after_has_id, before_has_id, bus_id, passes, passing_renamed, rename, rename_apart}
 use Rattle.batch.proofs.SharedBuses.{Entry}
-use Rattle.batch.specs.Order.{bus_at}
+use Rattle.batch.specs.Order.{bus_of_numbered}
 use Rattle.batch.specs.Packing.{ArePackedAirs}
-use Rattle.batch.specs.PlanFacts.{AreAssigned, all_tuple_widths, assigned}
+use Rattle.batch.specs.PlanFacts.{AreAssigned, all_tuple_widths, lookups_with_ids}
 use Rattle.batch.specs.Traces.{batch_over, instance_over}
 use Rattle.batch.specs.declared.trace.BatchTrace.{BatchTrace}
 
@@ -102,16 +102,16 @@ module _ {F : Type 0} where
     abbrev renamed_entry : Entry F → Entry F
     renamed_entry a = (rename a.0, a.1)
 
-    assigned_renamed : assigned renamed_ids airs ≡ map renamed_entry (assigned ids airs)
+    assigned_renamed : lookups_with_ids renamed_ids airs ≡ map renamed_entry (lookups_with_ids ids airs)
     assigned_renamed =
         ap (flat_map entries) (zip-map_left (map rename) ids airs)
         ∙ flat_map-map entries (λ p. (map rename p.0, p.1)) (zip ids airs)
         ∙ flat_same (λ p. zip (map rename p.0) (lookups_of p.1)) (λ p. map renamed_entry (entries p)) (zip ids airs) (each_of _ (λ p. zip-map_left rename p.0 (lookups_of p.1)) (zip ids airs))
         ∙ sym (map-flat_map renamed_entry entries (zip ids airs))
 
-    batch_renamed : (traces : List (BatchTrace F)) → map (renamed rename) (batch_over ids airs traces) ≡ batch_over renamed_ids airs traces
+    batch_renamed : (traces : List (BatchTrace F)) → map (renamed_instance rename) (batch_over ids airs traces) ≡ batch_over renamed_ids airs traces
     batch_renamed traces =
-        map-map (renamed rename) (λ t. instance_over t.0 t.1) (zip (zip ids airs) traces)
+        map-map (renamed_instance rename) (λ t. instance_over t.0 t.1) (zip (zip ids airs) traces)
         ∙ zip_mapped (λ p. (map rename p.0, p.1)) instance_over (zip ids airs) traces
         ∙ ap (λ ps. map (λ t. instance_over t.0 t.1) (zip ps traces)) (sym (zip-map_left (map rename) ids airs))
 
@@ -174,8 +174,8 @@ module _ {F : Type 0} (R : Ring F) (eq : F → F → Bool) where
   all_kept (b ∷ bs) (a ∷ rest) (i ∷ is) (j ∷ js) many many_after keep = (record { many = cc many; many_after = cc many_after; keep = keep.0 }, all_kept bs rest is js (cc many) (cc many_after) keep.1)
   all_kept airs later ids more many many_after keep = absurd (first_of (assumption keep, cc))
 
-  same_buses : (p q : List ℕ × Lookups F) → AreKept p q → of_passing bus_at p ≡ of_passing bus_at q
-  same_buses p q kept = passing_is bus_at p kept.many ∙ sym kept.keep.other_buses_are ∙ sym (passing_is bus_at q kept.many_after)
+  same_buses : (p q : List ℕ × Lookups F) → AreKept p q → of_passing bus_of_numbered p ≡ of_passing bus_of_numbered q
+  same_buses p q kept = passing_is bus_of_numbered p kept.many ∙ sym kept.keep.other_buses_are ∙ sym (passing_is bus_of_numbered q kept.many_after)
 
   -- the batch of a plan is packed into that of the plan after, where what passes through has the same ids
   plans_packed : (bus_id : List ℕ → ℕ) (ps qs : List (List ℕ × Lookups F)) (traces : List (BatchTrace F)) → AllZip AreKept ps qs
@@ -186,7 +186,7 @@ module _ {F : Type 0} (R : Ring F) (eq : F → F → Bool) where
   plans_packed bus_id (p ∷ ps) (q ∷ qs) (t ∷ ts) kept before after alike =
       let id = λ (c : Entry F). c.0 in
       let as_many : length (of_passing id p) ≡ length (of_passing id q) =
-      length-map (filter passes (entries p)) id ∙ same_length bus_at bus_at (filter passes (entries p)) (filter passes (entries q)) (same_buses p q kept.0) ∙ sym (length-map (filter passes (entries q)) id) in (
+      length-map (filter passes (entries p)) id ∙ same_length bus_of_numbered bus_of_numbered (filter passes (entries p)) (filter passes (entries q)) (same_buses p q kept.0) ∙ sym (length-map (filter passes (entries q)) id) in (
         inr (record {
           traces = refl;
           messages = kept.0.keep.messages;
@@ -206,16 +206,16 @@ module _ {F : Type 0} (R : Ring F) (eq : F → F → Bool) where
   module _ (ids : List (List ℕ)) (airs : List (Lookups F)) (m : ℕ) (more : List (List ℕ)) (later : List (Lookups F)) (n : ℕ)
       (lawful : AreAssigned ids airs m) (lawful_after : AreAssigned more later n) (packed : ArePackedAirs R eq airs later) where
     abbrev xs : List (Entry F)
-    xs = assigned ids airs
+    xs = lookups_with_ids ids airs
 
     abbrev ys : List (Entry F)
-    ys = assigned more later
+    ys = lookups_with_ids more later
 
-    pub same : map bus_at (filter passes xs) ≡ map bus_at (filter passes ys)
+    pub same : map bus_of_numbered (filter passes xs) ≡ map bus_of_numbered (filter passes ys)
     same =
-        passing_parts bus_at (zip ids airs)
-        ∙ AllZip-same_parts AreKept (of_passing bus_at) (of_passing bus_at) same_buses (zip ids airs) (zip more later) (all_kept airs later ids more lawful.as_many lawful_after.as_many (all_keep airs later packed))
-        ∙ sym (passing_parts bus_at (zip more later))
+        passing_parts bus_of_numbered (zip ids airs)
+        ∙ AllZip-same_parts AreKept (of_passing bus_of_numbered) (of_passing bus_of_numbered) same_buses (zip ids airs) (zip more later) (all_kept airs later ids more lawful.as_many lawful_after.as_many (all_keep airs later packed))
+        ∙ sym (passing_parts bus_of_numbered (zip more later))
 
     pub below : All (λ b. b.0 < n) ys
     below = lawful_after.by_bus.below
@@ -226,7 +226,7 @@ module _ {F : Type 0} (R : Ring F) (eq : F → F → Bool) where
     pub renaming_apart : IsInjective renaming
     renaming_apart = rename_apart xs ys lawful.by_bus.buses lawful_after.by_bus.buses same n below
 
-    pub plan_packed : (traces : List (BatchTrace F)) → ArePacked R eq (map (renamed renaming) (batch_over ids airs traces)) (batch_over more later traces)
+    pub plan_packed : (traces : List (BatchTrace F)) → ArePacked R eq (map (renamed_instance renaming) (batch_over ids airs traces)) (batch_over more later traces)
     plan_packed traces =
         let ids_renamed = renamed_ids renaming ids airs in
         let many = map-map length (map renaming) ids ∙ map_same (λ i. length (map renaming i)) length (λ i. length-map i renaming) ids ∙ lawful.as_many in

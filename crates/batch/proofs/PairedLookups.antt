@@ -15,7 +15,7 @@ use Rattle.checker_batches.specs.Renamed.{IsInjective}
 use Rattle.batch.proofs.Members.{from_image, in_part, members, same_images}
 use Rattle.batch.proofs.Renaming.{Agree, AllAgree, rename_by, renames, renames_apart}
 use Rattle.batch.proofs.SharedBuses.{Entry, IsByBus, same_id, same_label, share, shared}
-use Rattle.batch.specs.Order.{bus_at, same_bus}
+use Rattle.batch.specs.Order.{bus_of_numbered, same_bus}
 
 -- whether a lookup passes through packing
 abbrev pub passes : {F : Type 0} → Entry F → Bool
@@ -23,37 +23,37 @@ passes a = not (is_additive (fields_of a.1))
 
 -- a lookup on a bus has the bus's id
 abbrev pub HasBusId : {F : Type 0} → (List ℕ → ℕ) → Entry F → Type 0
-HasBusId bus_id a = (name : List ℕ) → bus_at a ≡ Some name → a.0 ≡ bus_id name
+HasBusId bus_id a = (name : List ℕ) → bus_of_numbered a ≡ Some name → a.0 ≡ bus_id name
 
 -- the id of the first lookup on a bus
 module _ {F : Type 0} (zs : List (Entry F)) where
   abbrev labelled : Entry F → Option (List ℕ) × ℕ
-  labelled a = (bus_at a, a.0)
+  labelled a = (bus_of_numbered a, a.0)
 
   abbrev id_on : List ℕ → Option ℕ
   id_on name = lookup (same_bus (Some name)) (map labelled zs)
 
-  on_is : (name : List ℕ) (id : ℕ) → id_on name ≡ Some id → (a : Entry F) × Contains zs a × (bus_at a ≡ Some name) × (a.0 ≡ id)
+  on_is : (name : List ℕ) (id : ℕ) → id_on name ≡ Some id → (a : Entry F) × Contains zs a × (bus_of_numbered a ≡ Some name) × (a.0 ≡ id)
   on_is name id is =
       let exact = λ (o p : Option (List ℕ)) (t : same_bus o p ≡ true). (let (n, one, other) = shared o p t in one ∙ sym other) in
       let (a, there, same) = from_image labelled zs (Some name, id) (Contains-from_lookup exact (Some name) id (map labelled zs) is) in
       (a, there, ap (λ (p : Option (List ℕ) × ℕ). p.0) same, ap (λ (p : Option (List ℕ) × ℕ). p.1) same)
 
   -- all lookups on the bus have it
-  has_id_on : AllPairs IsByBus zs → (a : Entry F) → Contains zs a → (name : List ℕ) → bus_at a ≡ Some name → id_on name ≡ Some a.0
+  has_id_on : AllPairs IsByBus zs → (a : Entry F) → Contains zs a → (name : List ℕ) → bus_of_numbered a ≡ Some name → id_on name ≡ Some a.0
   has_id_on buses a there name on =
       let Same = λ (e : Option (List ℕ) × ℕ). same_bus (Some name) e.0 ≡ true → e.1 ≡ a.0 in
-      lookup_found (same_bus (Some name)) (map labelled zs) (bus_at a) a.0 (in_image labelled zs a there) (share (Some name) (bus_at a) name refl on)
+      lookup_found (same_bus (Some name)) (map labelled zs) (bus_of_numbered a) a.0 (in_image labelled zs a there) (share (Some name) (bus_of_numbered a) name refl on)
       (recursion_from_All Same (map labelled zs) (All-map Same labelled zs (λ i d lt t.
-      let (other, one, on_too) = shared (Some name) (bus_at (get_or zs i d)) t in
+      let (other, one, on_too) = shared (Some name) (bus_of_numbered (get_or zs i d)) t in
       same_id zs buses (get_or zs i d) a (Contains-get_or zs i d lt) there name (on_too ∙ sym one) on)))
 
-module _ {F : Type 0} (xs ys : List (Entry F)) (buses : AllPairs IsByBus xs) (buses_after : AllPairs IsByBus ys) (same : map bus_at (filter passes xs) ≡ map bus_at (filter passes ys)) where
+module _ {F : Type 0} (xs ys : List (Entry F)) (buses : AllPairs IsByBus xs) (buses_after : AllPairs IsByBus ys) (same : map bus_of_numbered (filter passes xs) ≡ map bus_of_numbered (filter passes ys)) where
   -- what a pair of a lookup before and one after has to be
   record IsPaired (p : Entry F × Entry F) : Type 0 where
     pub before : Contains xs p.0
     pub after : Contains ys p.1
-    pub one_bus : bus_at p.0 ≡ bus_at p.1
+    pub one_bus : bus_of_numbered p.0 ≡ bus_of_numbered p.1
 
   abbrev numbers : Entry F × Entry F → ℕ × ℕ
   numbers p = (p.0.0, p.1.0)
@@ -70,7 +70,7 @@ module _ {F : Type 0} (xs ys : List (Entry F)) (buses : AllPairs IsByBus xs) (bu
 
   -- lookups that share a bus
   abbrev beside : Entry F → Entry F → List (Entry F × Entry F)
-  beside a b = cond (same_bus (bus_at a) (bus_at b)) ((a, b) ∷ []) []
+  beside a b = cond (same_bus (bus_of_numbered a) (bus_of_numbered b)) ((a, b) ∷ []) []
 
   abbrev bus_pairs : List (Entry F × Entry F)
   bus_pairs = flat_map (λ a. flat_map (beside a) ys) xs
@@ -78,20 +78,20 @@ module _ {F : Type 0} (xs ys : List (Entry F)) (buses : AllPairs IsByBus xs) (bu
   abbrev all_pairs : List (Entry F × Entry F)
   all_pairs = passing_pairs ++ bus_pairs
 
-  one_by_one : AllZip (λ a b. bus_at a ≡ bus_at b) us vs
-  one_by_one = same_images bus_at bus_at us vs same
+  one_by_one : AllZip (λ a b. bus_of_numbered a ≡ bus_of_numbered b) us vs
+  one_by_one = same_images bus_of_numbered bus_of_numbered us vs same
 
   abbrev IsOnBus : Entry F × Entry F → Type 0
-  IsOnBus p = IsPaired p × ((name : List ℕ) × (bus_at p.0 ≡ Some name))
+  IsOnBus p = IsPaired p × ((name : List ℕ) × (bus_of_numbered p.0 ≡ Some name))
 
   bus_paired : All IsOnBus bus_pairs
   bus_paired = All-parts IsOnBus (λ a. flat_map (beside a) ys) xs (λ i d lt.
       All-parts IsOnBus (beside (get_or xs i d)) ys (λ j e within. one (get_or xs i d) (get_or ys j e) (Contains-get_or xs i d lt) (Contains-get_or ys j e within)))
     where
       one : (a b : Entry F) → Contains xs a → Contains ys b → All IsOnBus (beside a b)
-      one a b before after = (elim (same_bus (bus_at a) (bus_at b)) as (λ t. same_bus (bus_at a) (bus_at b) ≡ t → All IsOnBus (cond t ((a, b) ∷ []) [])) [
+      one a b before after = (elim (same_bus (bus_of_numbered a) (bus_of_numbered b)) as (λ t. same_bus (bus_of_numbered a) (bus_of_numbered b) ≡ t → All IsOnBus (cond t ((a, b) ∷ []) [])) [
         | true ↦ λ t.
-            let (name, of_a, of_b) = shared (bus_at a) (bus_at b) t in
+            let (name, of_a, of_b) = shared (bus_of_numbered a) (bus_of_numbered b) t in
             All-cons IsOnBus (a, b) [] (record { before = before; after = after; one_bus = of_a ∙ sym of_b }, (name, of_a)) (All-nil IsOnBus)
         | false ↦ λ t. All-nil IsOnBus
       ]) refl
@@ -106,8 +106,8 @@ module _ {F : Type 0} (xs ys : List (Entry F)) (buses : AllPairs IsByBus xs) (bu
     pair_is : (get_or us i d.0, get_or vs i d.1) ≡ get_or passing_pairs i d
     pair_is = sym (get_or-zip us vs i d in_us in_vs)
 
-    label_is : bus_at (get_or us i d.0) ≡ bus_at (get_or vs i d.1)
-    label_is = AllZip-get_or (λ a b. bus_at a ≡ bus_at b) us vs i d.0 d.1 one_by_one in_us
+    label_is : bus_of_numbered (get_or us i d.0) ≡ bus_of_numbered (get_or vs i d.1)
+    label_is = AllZip-get_or (λ a b. bus_of_numbered a ≡ bus_of_numbered b) us vs i d.0 d.1 one_by_one in_us
 
     passing_paired : IsPaired (get_or passing_pairs i d)
     passing_paired = subst IsPaired pair_is (record {
@@ -181,7 +181,7 @@ module _ {F : Type 0} (xs ys : List (Entry F)) (buses : AllPairs IsByBus xs) (bu
         each us vs same (recursion_from_All (λ p. rename p.0.0 ≡ p.1.0) passing_pairs (λ k d lt.
         renamed_pair (get_or passing_pairs k d) (Contains-append_left passing_pairs bus_pairs _ (Contains-get_or passing_pairs k d lt))))
       where
-        each : (as_before as_after : List (Entry F)) → map bus_at as_before ≡ map bus_at as_after → AllByRecursion (λ p. rename p.0.0 ≡ p.1.0) (zip as_before as_after) → map (λ a. rename a.0) as_before ≡ map (λ a. a.0) as_after
+        each : (as_before as_after : List (Entry F)) → map bus_of_numbered as_before ≡ map bus_of_numbered as_after → AllByRecursion (λ p. rename p.0.0 ≡ p.1.0) (zip as_before as_after) → map (λ a. rename a.0) as_before ≡ map (λ a. a.0) as_after
         each [] [] alike all = refl
         each (a ∷ rest) (b ∷ later) alike all = λ i. all.0 i ∷ each rest later (cc) all.1 i
         each rest later alike all = absurd cc
@@ -197,7 +197,7 @@ module _ {F : Type 0} (xs ys : List (Entry F)) (buses : AllPairs IsByBus xs) (bu
         by_after None none = ap (λ o. rename (unwrap_or o 0)) (sym (has_id_on xs buses a there name on))
         by_after (Some id) is =
             let (b, b_there, b_on, b_id) = on_is ys name id is in
-            let here : Contains {X = Entry F × Entry F} (beside a b) (a, b) = subst (λ t. Contains {X = Entry F × Entry F} (cond t ((a, b) ∷ []) []) (a, b)) (sym (share (bus_at a) (bus_at b) name on b_on)) (0, omega arith, refl) in
+            let here : Contains {X = Entry F × Entry F} (beside a b) (a, b) = subst (λ t. Contains {X = Entry F × Entry F} (cond t ((a, b) ∷ []) []) (a, b)) (sym (share (bus_of_numbered a) (bus_of_numbered b) name on b_on)) (0, omega arith, refl) in
             renamed_pair (a, b) (Contains-append_right passing_pairs bus_pairs (a, b) (in_part (λ c. flat_map (beside c) ys) xs a (a, b) there (in_part (beside a) ys b (a, b) b_there here))) ∙ b_id
 
     pub after_has_id : (b : Entry F) → Contains ys b → HasBusId bus_id b

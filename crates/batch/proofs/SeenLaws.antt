@@ -21,8 +21,8 @@ use Rattle.lookup.specs.declared.lookups.Lookups.{Lookups}
 use Rattle.batch.proofs.GivenLaws.{known_more, still_known}
 use Rattle.batch.proofs.SharedBuses.{Entry, IsByBus, apart_pairs, joined_pairs, share, shared}
 use Rattle.batch.specs.Lists.{lists_of}
-use Rattle.batch.specs.Order.{AreByBus, bus_at, same_bus}
-use Rattle.batch.specs.PlanFacts.{assigned}
+use Rattle.batch.specs.Order.{AreByBus, bus_of_numbered, same_bus}
+use Rattle.batch.specs.PlanFacts.{lookups_with_ids}
 use Rattle.batch.specs.declared.assigned.SeenIds.{SeenIds}
 use Rattle.batch.specs.internal.Numbering.{IsKnown}
 use Rattle.batch.specs.internal.Seen.{AreSeen, IsNewId, IsSeenOnBus, IsUsed, Sees, is_among}
@@ -41,7 +41,7 @@ module _ {F : Type 0} (m : ℕ) where
   none_seen seen names ids = record {
     by_bus = record { buses = λ i j d before within. absurd (omega (arith, within)); below = All-nil (λ (b : Entry F). b.0 < m) };
     ids = λ id. subst (λ (ks : List ℕ). IsUsed {F = F} [] id (is_among id ks)) (sym ids) (All-nil (λ (b : Entry F). b.0 ≢ id));
-    names = λ q. subst (λ (es : List (Bor (List ℕ) × ℕ)). IsKnown {F = F} [] q (lookup (λ k. same_name q k.now) es)) (sym names) (All-nil (λ (b : Entry F). bus_at b ≢ Some q));
+    names = λ q. subst (λ (es : List (Bor (List ℕ) × ℕ)). IsKnown {F = F} [] q (lookup (λ k. same_name q k.now) es)) (sym names) (All-nil (λ (b : Entry F). bus_of_numbered b ≢ Some q));
   }
 
   module _ (all : List (Entry F)) (a : Entry F) where
@@ -76,7 +76,7 @@ module _ {F : Type 0} (m : ℕ) where
 
     module _ (before after : SeenIds) (seen : AreSeen m all before) (low : a.0 < m) where
       -- a lookup that shares no bus with an earlier one has a lawful id exactly if it is new
-      fresh_seen : ((k : ℕ) (d : Entry F) → k < length all → ¬ IsTrue (same_bus (bus_at (get_or all k d)) (bus_at a)))
+      fresh_seen : ((k : ℕ) (d : Entry F) → k < length all → ¬ IsTrue (same_bus (bus_of_numbered (get_or all k d)) (bus_of_numbered a)))
           → ((q : List ℕ) → IsKnown more q (lookup (λ k. same_name q k.now) after.names.entries)) → (answer : Bool) → IsNewId before.ids.keys after.ids.keys a.0 answer → Sees m more after answer
       fresh_seen apart names answer new = by_use (is_among a.0 before.ids.keys) refl
         where
@@ -100,21 +100,21 @@ module _ {F : Type 0} (m : ℕ) where
               )
 
       -- so it is of a local one
-      pub local_seen : bus_at a ≡ None → after.names.entries ≡ before.names.entries → (answer : Bool) → IsNewId before.ids.keys after.ids.keys a.0 answer → Sees m more after answer
+      pub local_seen : bus_of_numbered a ≡ None → after.names.entries ≡ before.names.entries → (answer : Bool) → IsNewId before.ids.keys after.ids.keys a.0 answer → Sees m more after answer
       local_seen none names = fresh_seen
-          (λ k d lt t. let (name, one, other) = shared (bus_at (get_or all k d)) (bus_at a) t in cc (sym none ∙ other))
+          (λ k d lt t. let (name, one, other) = shared (bus_of_numbered (get_or all k d)) (bus_of_numbered a) t in cc (sym none ∙ other))
           (λ q. subst (λ (es : List (Bor (List ℕ) × ℕ)). IsKnown more q (lookup (λ k. same_name q k.now) es)) (sym names)
           (still_known all a q (lookup (λ k. same_name q k.now) before.names.entries) (λ on. absurd (cc (sym none ∙ on))) (seen.names q)))
 
       -- a lookup on a bus has that of its bus, or else a new one
-      pub bus_seen : (name : Bor (List ℕ)) → bus_at a ≡ Some name.now → (answer : Bool) → IsSeenOnBus name before after a.0 answer → Sees m more after answer
+      pub bus_seen : (name : Bor (List ℕ)) → bus_of_numbered a ≡ Some name.now → (answer : Bool) → IsSeenOnBus name before after a.0 answer → Sees m more after answer
       bus_seen name on answer is = by_name (lookup (λ k. same_name name.now k.now) before.names.entries) (seen.names name.now) is.answer_is
         where
           names : (q : List ℕ) → IsKnown more q (lookup (λ k. same_name q k.now) after.names.entries)
           names = known_more all a name on before.names.entries after.names.entries is.names seen.names
 
           by_name : (o : Option ℕ) → IsKnown all name.now o → MatchOption o (IsNewId before.ids.keys after.ids.keys a.0 answer) (λ known. (after.ids.keys ≡ before.ids.keys) × (IsTrue answer ↔ (known ≡ a.0))) → Sees m more after answer
-          by_name None none new = fresh_seen (λ k d lt t. let (other, of_x, of_a) = shared (bus_at (get_or all k d)) (bus_at a) t in none k d lt (of_x ∙ sym of_a ∙ on)) names answer new
+          by_name None none new = fresh_seen (λ k d lt t. let (other, of_x, of_a) = shared (bus_of_numbered (get_or all k d)) (bus_of_numbered a) t in none k d lt (of_x ∙ sym of_a ∙ on)) names answer new
           by_name (Some known) (j, here, known_at) (keys, says) = (
             λ yes.
                 let same : known ≡ a.0 = says.0 yes in
@@ -126,7 +126,7 @@ module _ {F : Type 0} (m : ℕ) where
                   ids = λ id. subst (λ (ks : List ℕ). IsUsed more id (is_among id ks)) (sym keys) (still_used j here (λ d. (known_at d).1 ∙ same) id (is_among id before.ids.keys) (seen.ids id));
                   names = names;
                 },
-            λ by_bus. says.1 (sym (known_at a).1 ∙ (last_agrees by_bus j here).1 (share (bus_at (get_or all j a)) (bus_at a) name.now (known_at a).0 on)),
+            λ by_bus. says.1 (sym (known_at a).1 ∙ (last_agrees by_bus j here).1 (share (bus_of_numbered (get_or all j a)) (bus_of_numbered a) name.now (known_at a).0 on)),
           )
 
   -- what is answered for the first of some lookups: that they are seen, or that the ids of all are not by bus
@@ -155,7 +155,7 @@ module _ {F : Type 0} (m : ℕ) where
 
     pub air_seen : (list : Vec ℕ Global) (air : Lookups F) → length ids ≡ length airs → i < length airs → list ≡ get_or ids i list → air ≡ get_or airs i air
         → (own : List ℕ) (lookups : List (Lookup F)) → own ≡ list.items → lookups ≡ lookups_of air → Sees m (flat_map entries (take i (zip (lists_of ids) airs)) ++ zip own lookups) seen answer
-        → Continues (flat_map entries (take (i + 1) (zip (lists_of ids) airs))) (assigned (lists_of ids) airs) seen answer
+        → Continues (flat_map entries (take (i + 1) (zip (lists_of ids) airs))) (lookups_with_ids (lists_of ids) airs) seen answer
     air_seen list air as_many lt list_is air_is own lookups own_is lookups_are sees =
         let ps = zip (lists_of ids) airs in
         let lists_are : length (lists_of ids) ≡ length airs = length-map ids (λ l. l.items) ∙ as_many in

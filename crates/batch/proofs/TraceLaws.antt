@@ -11,7 +11,7 @@ use Rattle.lists.proofs.Images.{images_more, mapped_at}
 use Rattle.lists.proofs.Items.{item_there}
 use Rattle.lists.proofs.Zips.{pair_at, zip_at}
 use Rattle.matrix.specs.Matrix.{Matrix}
-use Rattle.lookup_model.specs.Batches.Ids.{identified}
+use Rattle.lookup_model.specs.Batches.Ids.{batch_lookups_with_ids}
 use Rattle.lookup_model.specs.Batches.Instances.{Instance, InstancesFit, IsFitting, instance_of, instances_of}
 use Rattle.lookup_model.specs.declared.instance.BatchInstance.{BatchInstance}
 use Rattle.lookup_model.specs.declared.types.Lookup.{Lookup}
@@ -34,13 +34,13 @@ module _ {F : Type 0} where
   ids_below m (id ∷ ids) (l ∷ ls) same all = All-cons (λ i. i < m) id ids all.0 (ids_below m ids ls (omega (arith, same)) all.1)
 
   -- the ids of AIRs are below m if those of their lookups are
-  pub airs_below : (m : ℕ) (is : List (Instance F)) → All IsFitting is → AllByRecursion (λ a. a.0 < m) (identified is) → All (λ i. All (λ id. id < m) i.ids) is
+  pub airs_below : (m : ℕ) (is : List (Instance F)) → All IsFitting is → AllByRecursion (λ a. a.0 < m) (batch_lookups_with_ids is) → All (λ i. All (λ id. id < m) i.ids) is
   airs_below m is fit all k i lt =
       let one = get_or is k i in
       ids_below m one.ids one.lookups (fit k i lt).ids (all_here (λ j. AllByRecursion (λ a. a.0 < m) (zip j.ids j.lookups)) is k i lt (all_parts (λ a. a.0 < m) (λ j. zip j.ids j.lookups) is all))
 
   -- the ids of a batch are below m if those of its lookups are
-  pub have_below : (m : ℕ) (bs : List (BatchInstance F)) → InstancesFit bs → AllByRecursion (λ a. a.0 < m) (identified (instances_of bs)) → HaveIdsBelow m bs
+  pub have_below : (m : ℕ) (bs : List (BatchInstance F)) → InstancesFit bs → AllByRecursion (λ a. a.0 < m) (batch_lookups_with_ids (instances_of bs)) → HaveIdsBelow m bs
   have_below m bs fit all k b lt =
       let Below = λ (i : Instance F). AllByRecursion (λ a. a.0 < m) (zip i.ids i.lookups) in
       let one = get_or bs k b in

@@ -7,7 +7,7 @@ use Rattle.batch.specs.declared.error.BatchError.TheVariants as batch
 use Rattle.lookup_debug.specs.Contributions.{Traced}
 use Rattle.language_meaning.specs.Shapes.{Shape}
 use Rattle.language_meaning.specs.Tables.{TablesOf}
-use Rattle.language_meaning.specs.Faults.{Fails}
+use Rattle.language_meaning.specs.Faults.{IsNameRefusalOrMemory}
 use Rattle.language_meaning.specs.Lookups.{Said}
 use Rattle.language_meaning.specs.declared.name_fault.NameFault.{NameFault}
 use Rattle.language_meaning.specs.declared.name_fault.NameFault.TheVariants as faults
@@ -41,7 +41,7 @@ whole_table t =
     (subst (λ n. HasWholeRows n (length t.cells.items)) (sym long), subst (λ n. HasWholeRows n (length t.cells.items)) long)
 
 -- a fault of names is that of the look-up, unless memory ran out
-pub name_fault : {X : Type 0} (fault : NameFault) (read : Result X NameRefusal) → Fails fault read → (of_name fault ≡ Memory) ⊎ ((refusal : NameRefusal) × (read ≡ Err refusal) × (of_name fault ≡ Name refusal))
+pub name_fault : {X : Type 0} (fault : NameFault) (read : Result X NameRefusal) → IsNameRefusalOrMemory fault read → (of_name fault ≡ Memory) ⊎ ((refusal : NameRefusal) × (read ≡ Err refusal) × (of_name fault ≡ Name refusal))
 name_fault faults.Memory read fails = inl refl
 name_fault (faults.Refused refusal) read fails = inr (refusal, fails, refl)
 

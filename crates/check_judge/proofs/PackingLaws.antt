@@ -12,7 +12,7 @@ use Rattle.lookup_model.specs.Names.{is_named}
 use Rattle.lookup_model.specs.Outline.{Outline}
 use Rattle.lookup_model.specs.declared.error.LookupError.{LookupError}
 use Rattle.lookup.specs.Buses.{bus_names, on_bus}
-use Rattle.lookup.specs.Packing.{IsFilling, IsPacking, additive, is_additive, joined, numbered_from, passing}
+use Rattle.lookup.specs.Packing.{IsFilling, IsPacking, additive_lookups, is_additive, joined_lookup, numbered_from, passing}
 use Rattle.check_judge.specs.Sharing.{numbers_of, shared_by}
 use Rattle.check_judge.specs.internal.Sharing.{in_packing_order, tuples_of}
 use Rattle.check_judge.specs.declared.sharing.LookupTuples.{LookupTuples}
@@ -59,7 +59,7 @@ module _ {E : Type 0} where
     abbrev pub kept_parts : List (LookupTuples × List LookupTuples)
     kept_parts = map members_of (parts_of before p.cuts)
 
-    only_cuts : (names : List (List ℕ)) (cuts : List (List (Outline E × List (Outline E)))) → AllZip (λ name cut. IsFilling answers max_degree cut (on_bus name (additive before))) names cuts → AllZip (λ name cut. flat_map part_items cut ≡ on_bus name (additive before)) names cuts
+    only_cuts : (names : List (List ℕ)) (cuts : List (List (Outline E × List (Outline E)))) → AllZip (λ name cut. IsFilling answers max_degree cut (on_bus name (additive_lookups before))) names cuts → AllZip (λ name cut. flat_map part_items cut ≡ on_bus name (additive_lookups before)) names cuts
     only_cuts [] [] all = tt
     only_cuts (n ∷ ns) (c ∷ cs) all = (all.0.0, only_cuts ns cs all.1)
     only_cuts ns cs all = absurd all
@@ -68,29 +68,29 @@ module _ {E : Type 0} where
     kept_cut =
         flat_members (parts_of before p.cuts)
         ∙ ap (map tuples_of) (flat_map-append part_items (map alone (passing before)) (flat_map (λ cut. cut) p.cuts)
-        ∙ (λ i. flat_alone (passing before) i ++ flat_cuts (λ name. on_bus name (additive before)) (bus_names (additive before)) p.cuts (only_cuts (bus_names (additive before)) p.cuts p.filled) i))
+        ∙ (λ i. flat_alone (passing before) i ++ flat_cuts (λ name. on_bus name (additive_lookups before)) (bus_names (additive_lookups before)) p.cuts (only_cuts (bus_names (additive_lookups before)) p.cuts p.filled) i))
 
-    held_joined : (parts : List (Outline E × List (Outline E))) → map (held (λ member. member.tuples)) (map members_of parts) ≡ map (λ o. length o.elements) (map joined parts)
+    held_joined : (parts : List (Outline E × List (Outline E))) → map (held (λ member. member.tuples)) (map members_of parts) ≡ map (λ o. length o.elements) (map joined_lookup parts)
     held_joined [] = refl
     held_joined (q ∷ qs) = λ i. tuples_joined (part_items q) i ∷ held_joined qs i
 
-    map_alone : (os : List (Outline E)) → map (λ o. length o.elements) (map joined (map alone os)) ≡ map (λ o. length o.elements) os
+    map_alone : (os : List (Outline E)) → map (λ o. length o.elements) (map joined_lookup (map alone os)) ≡ map (λ o. length o.elements) os
     map_alone [] = refl
     map_alone (o ∷ os) = λ i. ap length (append-nil o.elements) i ∷ map_alone os i
 
-    joined_cuts : (cuts : List (List (Outline E × List (Outline E)))) → map joined (flat_map (λ cut. cut) cuts) ≡ flat_map (λ cut. map joined cut) cuts
+    joined_cuts : (cuts : List (List (Outline E × List (Outline E)))) → map joined_lookup (flat_map (λ cut. cut) cuts) ≡ flat_map (λ cut. map joined_lookup cut) cuts
     joined_cuts [] = refl
-    joined_cuts (c ∷ cs) = map-append joined c (flat_map (λ cut. cut) cs) ∙ ap (λ t. map joined c ++ t) (joined_cuts cs)
+    joined_cuts (c ∷ cs) = map-append joined_lookup c (flat_map (λ cut. cut) cs) ∙ ap (λ t. map joined_lookup c ++ t) (joined_cuts cs)
 
     -- what the parts hold is what the columns have
     pub kept_sizes : map (held (λ member. member.tuples)) kept_parts ≡ map (λ o. length o.elements) after
     kept_sizes =
         held_joined (parts_of before p.cuts)
-        ∙ ap (map (λ o. length o.elements)) (map-append joined (map alone (passing before)) (flat_map (λ cut. cut) p.cuts))
-        ∙ map-append (λ o. length o.elements) (map joined (map alone (passing before))) (map joined (flat_map (λ cut. cut) p.cuts))
+        ∙ ap (map (λ o. length o.elements)) (map-append joined_lookup (map alone (passing before)) (flat_map (λ cut. cut) p.cuts))
+        ∙ map-append (λ o. length o.elements) (map joined_lookup (map alone (passing before))) (map joined_lookup (flat_map (λ cut. cut) p.cuts))
         ∙ (λ i. map_alone (passing before) i ++ map (λ o. length o.elements) (joined_cuts p.cuts i))
-        ∙ sym (map-append (λ o. length o.elements) (passing before) (flat_map (λ cut. map joined cut) p.cuts))
-        ∙ sym (ap (map (λ o. length o.elements)) p.columns ∙ sizes_numbered 0 (passing before ++ flat_map (λ cut. map joined cut) p.cuts))
+        ∙ sym (map-append (λ o. length o.elements) (passing before) (flat_map (λ cut. map joined_lookup cut) p.cuts))
+        ∙ sym (ap (map (λ o. length o.elements)) p.columns ∙ sizes_numbered 0 (passing before ++ flat_map (λ cut. map joined_lookup cut) p.cuts))
 
     numbers_kept : (parts : List (Outline E × List (Outline E))) → map (λ part. map (λ member. member.number) (part_items part)) (map members_of parts) ≡ map numbers_of parts
     numbers_kept [] = refl
@@ -109,6 +109,6 @@ module _ {E : Type 0} where
   pub order_taken : (os : List (Outline E)) → AllByRecursion (λ o. 0 < length o.elements) os → AllByRecursion (λ member. 0 < member.tuples) (map tuples_of (in_packing_order os))
   order_taken os each =
       all_images (λ member. 0 < member.tuples) tuples_of (in_packing_order os)
-      (all_both (λ o. 0 < length o.elements) (passing os) (flat_map (λ name. on_bus name (additive os)) (bus_names (additive os))) (all_kept (λ o. 0 < length o.elements) (λ o. not (is_additive o)) os each)
-      (all_joined (λ o. 0 < length o.elements) (λ name. on_bus name (additive os)) (bus_names (additive os))
-      (each_of (λ name. AllByRecursion (λ o. 0 < length o.elements) (on_bus name (additive os))) (λ name. all_kept (λ o. 0 < length o.elements) (λ o. is_named name o.bus) (additive os) (all_kept (λ o. 0 < length o.elements) is_additive os each)) (bus_names (additive os)))))
+      (all_both (λ o. 0 < length o.elements) (passing os) (flat_map (λ name. on_bus name (additive_lookups os)) (bus_names (additive_lookups os))) (all_kept (λ o. 0 < length o.elements) (λ o. not (is_additive o)) os each)
+      (all_joined (λ o. 0 < length o.elements) (λ name. on_bus name (additive_lookups os)) (bus_names (additive_lookups os))
+      (each_of (λ name. AllByRecursion (λ o. 0 < length o.elements) (on_bus name (additive_lookups os))) (λ name. all_kept (λ o. 0 < length o.elements) (λ o. is_named name o.bus) (additive_lookups os) (all_kept (λ o. 0 < length o.elements) is_additive os each)) (bus_names (additive_lookups os)))))

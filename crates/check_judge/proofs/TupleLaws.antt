@@ -21,7 +21,7 @@ use Rattle.language_meaning.specs.declared.name_fault.NameRefusal.{NameRefusal}
 use Rattle.language_meaning.specs.Faults.{◌>>=◌}
 use Rattle.language_meaning.specs.Lookups.{Addition, Column, Said, SentPart, addition, addition_at, column_alone, column_together, defined_by, defines, message_on, names_after, new_name, nothing, part_on, parts_on, publics_after, publishes, said_after, said_by_items, sends}
 use Rattle.language_meaning.specs.Room.{InRoom}
-use Rattle.language_meaning.specs.Scopes.{Names}
+use Rattle.language_meaning.specs.Scopes.{NamesInScope}
 
 -- a lookup has a message
 abbrev pub HasParts : Column → Type 0
@@ -43,26 +43,26 @@ given : {A : Type 0} (P : A → Type 0) (x y : A) → P x → ◌≡◌ {A = Res
 given P x y holds e = let same : x ≡ y = cc e in subst P same holds
 
 module _ (sections : List Section) where
-  parts_there : (names : Names) (bus : Option Span) (p : Part) (ps : List Part) (room : ℕ) (y : InRoom (List SentPart)) → parts_on sections names bus (p ∷ ps) room ≡ Ok y → 0 < length y.0
+  parts_there : (names : NamesInScope) (bus : Option Span) (p : Part) (ps : List Part) (room : ℕ) (y : InRoom (List SentPart)) → parts_on sections names bus (p ∷ ps) room ≡ Ok y → 0 < length y.0
   parts_there names bus p ps room y e =
       let (x, is, later) = first_step (part_on sections names bus p room) _ y e in
       let (xs, are, last) = first_step (parts_on sections names bus ps x.1) _ y later in
       given (λ z. 0 < length z.0) (x.0 ∷ xs.0, xs.1) y (omega arith) last
 
-  alone_there : (names : Names) (m : Message) (room : ℕ) (y : InRoom Column) → column_alone sections names m room ≡ Ok y → HasParts y.0
+  alone_there : (names : NamesInScope) (m : Message) (room : ℕ) (y : InRoom Column) → column_alone sections names m room ≡ Ok y → HasParts y.0
   unfolding column_alone
   alone_there names m room y e =
       let (x, is, last) = first_step (message_on sections names m room) _ y e in
       given (λ z. HasParts z.0) _ y (omega arith) last
 
-  together_there : (names : Names) (at : ℕ) (exclusive : Bool) (ps : List Part) (room : ℕ) (y : InRoom Column) → column_together sections names at exclusive ps room ≡ Ok y → HasParts y.0
+  together_there : (names : NamesInScope) (at : ℕ) (exclusive : Bool) (ps : List Part) (room : ℕ) (y : InRoom Column) → column_together sections names at exclusive ps room ≡ Ok y → HasParts y.0
   unfolding column_together
   together_there names at exclusive [] room y e = absurd (cc e)
   together_there names at exclusive (p ∷ ps) room y e =
       let (xs, there, last) = first_step (parts_on sections names p.message.bus (p ∷ ps) room) _ y e in
       given (λ z. HasParts z.0) _ y (parts_there names p.message.bus p ps room xs there) last
 
-  item_there : (names : Names) (publics at : ℕ) (item : Item) (room : ℕ) (y : InRoom Addition) → addition_at sections names publics at item room ≡ Ok y → AddsParts y.0
+  item_there : (names : NamesInScope) (publics at : ℕ) (item : Item) (room : ℕ) (y : InRoom Addition) → addition_at sections names publics at item room ≡ Ok y → AddsParts y.0
   unfolding addition_at
   item_there names publics at (items.trace s) room y e = given (λ z. AddsParts z.0) _ y tt e
   item_there names publics at (items.preprocessed s) room y e = given (λ z. AddsParts z.0) _ y tt e
@@ -89,7 +89,7 @@ module _ (sections : List Section) where
   all_there (sends c) said here rest = (here, rest)
 
   -- each lookup that items say has a message
-  pub said_there : (names : Names) (publics : ℕ) (ps : List Placed) (room : ℕ) (said : Said) → said_by_items sections names publics ps room ≡ Ok said → AllByRecursion HasParts said.columns
+  pub said_there : (names : NamesInScope) (publics : ℕ) (ps : List Placed) (room : ℕ) (said : Said) → said_by_items sections names publics ps room ≡ Ok said → AllByRecursion HasParts said.columns
   said_there names publics [] room said e = given (λ s. AllByRecursion HasParts s.columns) _ said tt e
   said_there names publics (p ∷ ps) room said e =
       let (a, first, later) = first_step (addition sections names publics p room) _ said e in

@@ -11,7 +11,7 @@ use Rattle.lookup_model.specs.Outline.{outline_of}
 use Rattle.lookup_model.specs.declared.types.Lookup.{Lookup}
 use Rattle.language_meaning.specs.Lookups.{Said, said_by_items}
 use Rattle.language_meaning.specs.declared.name_fault.NameRefusal.{NameRefusal}
-use Rattle.language_meaning.specs.Scopes.{Names}
+use Rattle.language_meaning.specs.Scopes.{NamesInScope}
 use Rattle.lookup_text.specs.Batches.{Air, Section, bus, air}
 use Rattle.lookup_text.specs.Tables.{Numbers}
 use Rattle.matrix.specs.Matrix.{Matrix}
@@ -23,7 +23,7 @@ airs_of (bus b ∷ sections) = airs_of sections
 airs_of (air a ∷ sections) = a ∷ airs_of sections
 
 -- what names stand for over these columns of the main and the preprocessed trace, before any definition
-abbrev pub names_over : List ℕ → List (List ℕ) → List (List ℕ) → Names
+abbrev pub names_over : List ℕ → List (List ℕ) → List (List ℕ) → NamesInScope
 names_over text columns fixed = record { text = text; columns = columns; preprocessed = fixed; defined = [] }
 
 module _ (text : List ℕ) (sections : List Section) where

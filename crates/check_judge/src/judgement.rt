@@ -9,7 +9,7 @@ ghost use Rattle.check_judge.specs.Causes.{HasNoPlan, IsJudgeRefusal};
 ghost use Rattle.check_judge.specs.Found.{IsFound, IsPlanOf, sized_of};
 ghost use Rattle.check_judge.specs.Said.{AreSaid, airs_of};
 ghost use Rattle.check_judge.specs.Airs.{AreFittingAirs, over_traced};
-ghost use Rattle.check_judge.specs.internal.Sizes.{size_of};
+ghost use Rattle.check_judge.specs.internal.Sizes.{sized_lookups_of};
 ghost use Rattle.language_meaning.specs.Buses.{distinct_buses};
 ghost use Rattle.lookup_text.specs.Batches.{section_of};
 
@@ -107,7 +107,7 @@ fn sizes_of<'a, F: Field>(
     alloc: Global,
     airs: &'a [AirOver<F>],
 ) -> Result<Vec<SizedAir<'a, F>>, AllocError>
-    ensures { IfOk result (λ v. map size_of v.items ≡ map (λ a. sized_of (over_traced a)) airs.now) }
+    ensures { IfOk result (λ v. map sized_lookups_of v.items ≡ map (λ a. sized_of (over_traced a)) airs.now) }
 {
     let mut sizes = Vec::new(alloc);
     for air in airs {

@@ -9,7 +9,7 @@ ghost use Rattle.language_meaning.specs.Shapes.{shape_of};
 ghost use Rattle.check_judge.specs.Causes.{IsPlanJudgeRefusal, IsPlanningRefusal, IsReportRefusal};
 ghost use Rattle.check_judge.specs.Found.{IsPlanFound, IsPlanOf, sized_over};
 ghost use Rattle.check_judge.specs.Said.{AreLookupsOf, SayOver, airs_of};
-ghost use Rattle.check_judge.specs.internal.Sizes.{size_of};
+ghost use Rattle.check_judge.specs.internal.Sizes.{sized_lookups_of};
 ghost use Rattle.check_judge.specs.internal.Sharing.{AllHaveTuples};
 ghost use Rattle.lookup_model.specs.declared.types.Lookup.{Lookup};
 ghost use Rattle.language_meaning.specs.Buses.{distinct_buses};
@@ -68,7 +68,7 @@ fn sized_airs<'a, F: Field>(
     shapes: &[AirShape],
 ) -> Result<Vec<SizedAir<'a, F>>, AllocError>
     requires { length sets.now ≡ length shapes.now }
-    ensures { IfOk result (λ v. map size_of v.items
+    ensures { IfOk result (λ v. map sized_lookups_of v.items
         ≡ sized_over (map lookups_of sets.now) (map shape_of shapes.now)) }
 {
     let mut airs = Vec::new(alloc);
@@ -87,9 +87,9 @@ pub(crate) fn plan_over<F: Field>(
     alloc: Global,
     airs: &[SizedAir<'_, F>],
 ) -> Result<BatchPlan<F>, JudgeFault>
-    ensures { MatchResult result (λ plan. IsPlanOf F.CHARACTERISTIC (map size_of airs.now) (plan_of plan))
+    ensures { MatchResult result (λ plan. IsPlanOf F.CHARACTERISTIC (map sized_lookups_of airs.now) (plan_of plan))
         (λ e. (e ≡ JudgeFault.Memory)
-        ⊎ IsPlanningRefusal F.CHARACTERISTIC (map size_of airs.now) e) }
+        ⊎ IsPlanningRefusal F.CHARACTERISTIC (map sized_lookups_of airs.now) e) }
 {
     let mut lookups = Vec::new(alloc);
     let mut heights = Vec::new(alloc);
@@ -107,10 +107,10 @@ pub(crate) fn report_plan<F: Field, EF: ExtensionField<F>>(
     plan: &BatchPlan<F>,
     max_degree: usize,
 ) -> Result<PlanReport, JudgeFault>
-    requires planned { IsPlanOf F.CHARACTERISTIC (map size_of airs.now) (plan_of plan.now) }
-    requires tuples { AllHaveTuples (map size_of airs.now) }
+    requires planned { IsPlanOf F.CHARACTERISTIC (map sized_lookups_of airs.now) (plan_of plan.now) }
+    requires tuples { AllHaveTuples (map sized_lookups_of airs.now) }
     ensures { let E = ⟦<EF as Over<F>>⟧.fields in
-        let sizes = map size_of airs.now in
+        let sizes = map sized_lookups_of airs.now in
         MatchResult result (IsPlanFound E F.CHARACTERISTIC max_degree sizes (plan_of plan.now))
         (λ e. (e ≡ JudgeFault.Memory) ⊎ IsReportRefusal F.ring F.eq max_degree sizes (plan_of plan.now) e) }
 {

@@ -5,7 +5,7 @@ ghost use Rattle.lookup.specs.Lookups.{lookups_of};
 ghost use Rattle.check_judge.specs.Causes.{IsDegreeRefusal, IsFirstPackingRefusal, IsPackingRefusal};
 ghost use Rattle.check_judge.specs.Found.{IsAirFound, height_sum};
 ghost use Rattle.check_judge.specs.Refusals.{of_lookups};
-ghost use Rattle.check_judge.specs.internal.Sizes.{size_of};
+ghost use Rattle.check_judge.specs.internal.Sizes.{sized_lookups_of};
 ghost use Rattle.check_judge.specs.internal.Sharing.{AllHaveTuples, HaveTuples};
 ghost use Rattle.lookup_model.specs.LookupDegree.{lookup_degree};
 ghost use Rattle.lookup_model.specs.Outline.{outline_of};
@@ -31,11 +31,11 @@ pub(crate) fn reports_of<F: Field>(
     airs: &[SizedAir<'_, F>],
     max_degree: usize,
 ) -> Result<Vec<AirReport>, JudgeFault>
-    requires { AllHaveTuples (map size_of airs.now) }
+    requires { AllHaveTuples (map sized_lookups_of airs.now) }
     ensures { MatchResult result (λ v. AllZip (λ air found. IsAirFound F.ring F.eq max_degree
-        (size_of air) found) airs.now v.items)
+        (sized_lookups_of air) found) airs.now v.items)
         (λ e. (e ≡ JudgeFault.Memory)
-        ⊎ IsFirstPackingRefusal F.ring F.eq max_degree (map size_of airs.now) e) }
+        ⊎ IsFirstPackingRefusal F.ring F.eq max_degree (map sized_lookups_of airs.now) e) }
 {
     let mut reports = Vec::new(alloc);
     for index in 0..airs.len() {
@@ -63,9 +63,9 @@ fn report_of<F: Field>(
     air: &SizedAir<'_, F>,
     max_degree: usize,
 ) -> Result<AirReport, LookupError>
-    requires { HaveTuples (map outline_of (size_of air.now).lookups) }
-    ensures { MatchResult result (IsAirFound F.ring F.eq max_degree (size_of air.now))
-        (λ e. (e ≡ LookupError.Memory) ⊎ IsPackingRefusal max_degree (size_of air.now) e) }
+    requires { HaveTuples (map outline_of (sized_lookups_of air.now).lookups) }
+    ensures { MatchResult result (IsAirFound F.ring F.eq max_degree (sized_lookups_of air.now))
+        (λ e. (e ≡ LookupError.Memory) ⊎ IsPackingRefusal max_degree (sized_lookups_of air.now) e) }
 {
     let copy = air.lookups.copy(alloc)?;
     let order = packing_order(alloc, copy.as_slice())?;
@@ -94,7 +94,7 @@ fn degrees_of<F: Field>(alloc: Global, lookups: &Lookups<F>) -> Result<Vec<usize
 
 /// The sum of weights times heights, or the greatest `u128`.
 pub(crate) fn height_sum<F: Field>(airs: &[SizedAir<'_, F>]) -> u128
-    ensures { result ≡ min (height_sum (map size_of airs.now)) (2 ^ 128 - 1) }
+    ensures { result ≡ min (height_sum (map sized_lookups_of airs.now)) (2 ^ 128 - 1) }
 {
     let mut sum = 0u128;
     for air in airs {

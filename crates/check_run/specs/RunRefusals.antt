@@ -14,7 +14,7 @@ use Rattle.language_meaning.specs.Shapes.{all_shapes}
 use Rattle.language_meaning.specs.Tables.{all_tables}
 use Rattle.language_meaning.specs.declared.table_fault.TableRefusal.{TableRefusal}
 use Rattle.language_meaning.specs.Lookups.{Said}
-use Rattle.lookup_words.specs.Line.{HasFieldNames, Names, line_app}
+use Rattle.lookup_words.specs.Line.{HasFieldNames, NameList, line_app}
 use Rattle.lookup_words.specs.Words.{IsAsked, IsRefused}
 use Rattle.lookup_words.specs.declared.refusal.WordsRefusal.TheVariants as of_words
 use Rattle.lookup_words.specs.declared.request.Asked.{Asked}
@@ -114,6 +114,6 @@ module _
     abbrev pub IsRunRefusal : List (List ℕ) → List ℕ → List File → RunRefusal → Type 0
     IsRunRefusal words text files e =
         (e ≡ Memory)
-        ⊎ ((names : Names) × HasFieldNames names
+        ⊎ ((names : NameList) × HasFieldNames names
         × (((told : String Global) × IsRefused (line_app names) words (of_words.Told told))
         ⊎ ((asked : Asked) × IsAsked (line_app names) words asked × IsAskedRefused asked text files)))

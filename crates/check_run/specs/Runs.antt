@@ -21,7 +21,7 @@ use Rattle.lookup_model.specs.declared.types.Lookup.{Lookup}
 use Rattle.lookup_model.specs.declared.witness.Witness.{Witness}
 use Rattle.language_meaning.specs.Buses.{distinct_buses}
 use Rattle.language_meaning.specs.Lookups.{Said}
-use Rattle.lookup_words.specs.Line.{HasFieldNames, Names, line_app}
+use Rattle.lookup_words.specs.Line.{HasFieldNames, NameList, line_app}
 use Rattle.lookup_words.specs.Words.{IsAsked, IsRefused}
 use Rattle.lookup_words.specs.declared.refusal.WordsRefusal.TheVariants.{Help}
 use Rattle.lookup_words.specs.declared.request.Asked.{Asked}
@@ -187,7 +187,7 @@ module _
     -- text is left to tests.
     abbrev pub IsAnswer : List (List ℕ) → List ℕ → List File → List ℕ → Answer → Type 0
     IsAnswer words text files witness answer =
-        (names : Names) × HasFieldNames names
+        (names : NameList) × HasFieldNames names
         × (((asked : Asked) × IsAsked (line_app names) words asked × AnswersTo asked text files witness answer)
         ⊎ ((help : String Global) × IsRefused (line_app names) words (Help help) × (answer.yes ≡ true)))
 
@@ -195,8 +195,8 @@ module _
 -- status 0 if it is yes and 1 if not, and nothing to the errors; or the status is 2, a front of the answer is written, and
 -- to the errors a front of the line that says that it cannot be written. A refusal has status 2, leaves the output as it
 -- was, and a front of its text is written to the errors. A front may be empty or all of a text.
-abbrev pub Ends : {W E : Type 0} → (W → Option (List ℕ)) → (E → Option (List ℕ)) → Result Answer RunRefusal → ℕ → W → W → E → E → Type 0
-Ends contents contents_of_errors answer status output output_after errors errors_after = MatchResult answer
+abbrev pub EndsWithAnswer : {W E : Type 0} → (W → Option (List ℕ)) → (E → Option (List ℕ)) → Result Answer RunRefusal → ℕ → W → W → E → E → Type 0
+EndsWithAnswer contents contents_of_errors answer status output output_after errors errors_after = MatchResult answer
     (λ a.
     ((status ≡ cond a.yes 0 1) × Appends (contents output) (contents output_after) a.text.items × (errors_after ≡ errors))
     ⊎ ((status ≡ 2)

@@ -6,7 +6,7 @@ ghost use Rattle.std.specs.String.{string_bytes};
 ghost use Rattle.language_meaning.specs.Files.{named_of};
 ghost use Rattle.check_judge.specs.Bits.{MeetsTarget, alphas_of, challenges_of};
 ghost use Rattle.check_run.specs.RunRefusals.{IsAskedRefused, IsRefusedIn, IsRunRefusal};
-ghost use Rattle.check_run.specs.Runs.{AnswersIn, AnswersTo, Ends, IsAnswer};
+ghost use Rattle.check_run.specs.Runs.{AnswersIn, AnswersTo, EndsWithAnswer, IsAnswer};
 ghost use Rattle.check_report.specs.Told.{refusal_text};
 ghost use Rattle.check_run.specs.Written.{AppendsFront, unwritten_line};
 ghost use Rattle.check_run.specs.internal.Told.{TellsWords, WritesFront};
@@ -67,7 +67,7 @@ pub fn run<W: Write, E: Write>(
         (answer : Result Answer RunRefusal)
         × MatchResult answer (IsAnswer S B K G said text files inputs.entry.witness.now)
         (IsRunRefusal S B K G said text files)
-        × Ends W.contents E.contents answer (exit_status result) output.old output.new errors.old
+        × EndsWithAnswer W.contents E.contents answer (exit_status result) output.old output.new errors.old
         errors.new }
 {
     match answer_of(alloc, words, inputs) {

@@ -8,7 +8,7 @@ use Rattle.lists.proofs.Each.{All-of_map}
 use Rattle.lists.proofs.Items.{item_at, take_item}
 use Rattle.lists.proofs.Zips.{zip_at}
 use Rattle.lookup_model.specs.declared.types.Lookup.{Lookup}
-use Rattle.lookup_model.specs.Batches.Ids.{AreLawfulIds, HaveOneWidth, ShareBus, identified}
+use Rattle.lookup_model.specs.Batches.Ids.{AreLawfulIds, HaveOneWidth, ShareBus, batch_lookups_with_ids}
 use Rattle.lookup_model.specs.Batches.Instances.{Instance}
 use Rattle.checker_batches.specs.declared.ids.Identified.{Identified}
 use Rattle.checker_batches.specs.internal.Identified.{AreLawful, identified_of}
@@ -36,7 +36,7 @@ module _ {F : Type 0} where
       ∙ ap (λ t. start ++ t) (sym (take_item (zip ids lookups) i (identified_of one) (omega (arith, length-zip ids lookups, lt, as_many)) there))
 
   -- lawful ids of lookups that are those of a batch, and the other way round
-  module _ (W m p : ℕ) (all : List (Identified F)) (instances : List (Instance F)) (are : map identified_of all ≡ identified instances) where
+  module _ (W m p : ℕ) (all : List (Identified F)) (instances : List (Instance F)) (are : map identified_of all ≡ batch_lookups_with_ids instances) where
     pub lawful_from : AreLawful W m p all → AreLawfulIds W m p instances
     lawful_from lawful = record {
       buses = subst (AllPairs (λ a b. (a.0 ≡ b.0) ↔ ShareBus a.1 b.1)) are (pairs_mapped identified_of all (λ a b. (a.0 ≡ b.0) ↔ ShareBus a.1 b.1) lawful.4);

@@ -16,14 +16,14 @@ use Rattle.air.specs.Traces.{AirTraces, height_of, window_of}
 use Rattle.lookup_model.specs.Message.{Key, Message, same_key}
 use Rattle.lookup_model.specs.Net.{first_seen, keys, net, unbalanced_keys}
 use Rattle.lookup_model.specs.Plain.{trace_messages}
-use Rattle.lookup_model.specs.Sent.{branch_at, branches_at, chosen, flags_at, sent, sent_at}
+use Rattle.lookup_model.specs.Sent.{branch_at, branches_at, chosen_branches, flags_at, sent, sent_at}
 use Rattle.lookup_model.specs.Trace.{sent_row_under}
 use Rattle.lookup_model.specs.declared.types.Lookup.{Lookup}
 use Rattle.lookup_model.specs.Batches.Instances.{Instance, IsFitting}
 use Rattle.lookup_model.specs.Batches.Messages.{batch_messages, id_of, sent_rows_of}
 use Rattle.lookup_model.proofs.Lookups.KeyLaws.{same_key-Decides}
 use Rattle.checker_batches.specs.Packed.{KeepsCounts}
-use Rattle.checker_batches.specs.Renamed.{IsInjective, renamed}
+use Rattle.checker_batches.specs.Renamed.{IsInjective, renamed_instance}
 
 -- the images that are seen first
 first_seen_images : {A B : Type 0} (f : A → B) (same : A → A → Bool) (same_image : B → B → Bool) → ((x y : A) → same_image (f x) (f y) ≡ same x y) → (xs : List A) → first_seen same_image (map f xs) ≡ map f (first_seen same xs)
@@ -46,7 +46,7 @@ module _ {F : Type 0} (rename : ℕ → ℕ) where
   renamed_message m = record { key = renamed_key m.key; multiplicity = m.multiplicity }
 
   module _ (R : Ring F) (eq : F → F → Bool) where
-    chosen_renamed : (flags : List F) (branches : List (Message F)) → chosen R eq flags (map renamed_message branches) ≡ map renamed_message (chosen R eq flags branches)
+    chosen_renamed : (flags : List F) (branches : List (Message F)) → chosen_branches R eq flags (map renamed_message branches) ≡ map renamed_message (chosen_branches R eq flags branches)
     chosen_renamed (f ∷ fs) (b ∷ bs) =
         let seconds = λ (zs : List (F × Message F)). map (λ c. c.1) zs in
         let left = λ (ms : List (Message F)). filter (λ c. eq c.0 R.one) (zip fs ms) in
@@ -83,7 +83,7 @@ module _ {F : Type 0} (rename : ℕ → ℕ) where
         (λ i l lt is. omega (arith, (fitting.fit.records i l lt (slice_get-get_or instance.lookups i l lt ∙ ap Some (sym is))).0, lt, fitting.ids))
 
     -- the messages of a batch
-    batch_renamed : (instances : List (Instance F)) → AllByRecursion IsFitting instances → batch_messages R eq (map (renamed rename) instances) ≡ map renamed_message (batch_messages R eq instances)
+    batch_renamed : (instances : List (Instance F)) → AllByRecursion IsFitting instances → batch_messages R eq (map (renamed_instance rename) instances) ≡ map renamed_message (batch_messages R eq instances)
     batch_renamed [] fitting = refl
     batch_renamed (i ∷ is) fitting =
         let rows = range_with_len 0 (height_of i.traces) in
@@ -118,7 +118,7 @@ module _ {F : Type 0} (R : Ring F) (eq : F → F → Bool) (decides : (a b : F) 
       (λ key. ap (λ n. not (eq n R.zero)) (net_renamed ms key)) (keys eq ms)
 
 -- the counts stay
-pub renamed_counts : {F K : Type 0} {E : Extension F K} (laws : IsLawful E) (rename : ℕ → ℕ) → IsInjective rename → (instances : List (Instance F)) → AllByRecursion IsFitting instances → KeepsCounts E instances (map (renamed rename) instances)
+pub renamed_counts : {F K : Type 0} {E : Extension F K} (laws : IsLawful E) (rename : ℕ → ℕ) → IsInjective rename → (instances : List (Instance F)) → AllByRecursion IsFitting instances → KeepsCounts E instances (map (renamed_instance rename) instances)
 renamed_counts {F} {K} {E} laws rename apart instances fitting =
     let messages = batch_messages E.base E.base_eq instances in
     let same = batch_renamed rename E.base E.base_eq instances fitting in

@@ -7,5 +7,5 @@ abbrev pub IsInjective : (ℕ → ℕ) → Type 0
 IsInjective rename = (i j : ℕ) → rename i ≡ rename j → i ≡ j
 
 -- an AIR with each of its ids renamed
-abbrev pub renamed : {F : Type 0} → (ℕ → ℕ) → Instance F → Instance F
-renamed rename instance = record { lookups = instance.lookups; traces = instance.traces; ids = map rename instance.ids }
+abbrev pub renamed_instance : {F : Type 0} → (ℕ → ℕ) → Instance F → Instance F
+renamed_instance rename instance = record { lookups = instance.lookups; traces = instance.traces; ids = map rename instance.ids }

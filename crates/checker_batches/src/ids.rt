@@ -1,7 +1,7 @@
 //! Which ids of lookups are lawful.
 ghost use Rattle.std.specs.Prelude.{◌≡◌, ◌↔◌, ◌<◌, ◌≤◌, ◌++◌, All, IfOk, IsTrue, length, map};
 ghost use Rattle.std.specs.List.{AllPairs, zip};
-ghost use Rattle.lookup_model.specs.Batches.Ids.{AreLawfulIds, HaveOneWidth, ShareBus, identified};
+ghost use Rattle.lookup_model.specs.Batches.Ids.{AreLawfulIds, HaveOneWidth, ShareBus, batch_lookups_with_ids};
 ghost use Rattle.lookup_model.specs.Batches.Instances.{HaveIds, instances_of};
 ghost use Rattle.checker_batches.specs.internal.Identified.{AgreeOnBuses, AgreeOnWidthOfId, AgreesBelow, AreLawful, IsWithinBounds, identified_of};
 
@@ -66,7 +66,7 @@ fn identified_lookups<'a, F>(
 ) -> Result<Vec<Identified<'a, F>>, AllocError>
     requires { HaveIds instances.now }
     ensures { IfOk result (λ all. map identified_of all.items
-        ≡ identified (instances_of instances.now)) }
+        ≡ batch_lookups_with_ids (instances_of instances.now)) }
 {
     let mut all = Vec::new(alloc);
     for instance in instances {

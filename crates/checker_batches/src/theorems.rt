@@ -7,7 +7,7 @@ ghost use Rattle.lookup_model.specs.Batches.Grid.{FewAcceptedPairs, IsJointlySou
 ghost use Rattle.lookup_model.specs.Batches.Linear.{IsLinearlyJointlySound, IsLinearlySound, LinearlyFewAcceptedPairs};
 ghost use Rattle.lookup_model.specs.Batches.Instances.{Instance, IsFitting};
 ghost use Rattle.checker_batches.specs.Packed.{ArePacked, KeepsCounts, KeepsTerminals};
-ghost use Rattle.checker_batches.specs.Renamed.{IsInjective, renamed};
+ghost use Rattle.checker_batches.specs.Renamed.{IsInjective, renamed_instance};
 ghost use Rattle.checker_batches.specs.Soundness.{AcceptedIsAccepting, AcceptedIsAcceptingBelow, HoldsOfLawful};
 
 use field::{ExtensionField, Field, Over};
@@ -97,7 +97,7 @@ pub fn packing_keeps_batch<F: Field, EF: ExtensionField<F>>()
     ensures counts { (before after : List (Instance F)) → ArePacked F.ring F.eq before after
         → KeepsCounts ⟦<EF as Over<F>>⟧.fields before after }
     ensures renumbered { (rename : ℕ → ℕ) → IsInjective rename → (before after : List (Instance F))
-        → All IsFitting before → ArePacked F.ring F.eq (map (renamed rename) before) after
+        → All IsFitting before → ArePacked F.ring F.eq (map (renamed_instance rename) before) after
         → KeepsCounts ⟦<EF as Over<F>>⟧.fields before after }
     ensures terminals { (before after : List (Instance F)) → All IsFitting before
         → All IsFitting after → ArePacked F.ring F.eq before after

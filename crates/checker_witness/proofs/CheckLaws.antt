@@ -15,7 +15,7 @@ use Rattle.lookup_model.specs.Batches.Instances.{Instance}
 use Rattle.lookup_model.specs.Batches.Refusals.{HoldsAt}
 use Rattle.lookup_model.specs.Batches.Witnesses.{AirResult}
 use Rattle.lookup_model.proofs.Lookups.FractionSums.{add_up, terminal_is_sum}
-use Rattle.checker_witness.specs.Columns.{ColumnsHoldUntil, IsFirstFailingRow}
+use Rattle.checker_witness.specs.Columns.{ColumnsHoldUntil, IsFirstFailingRowOfColumns}
 use Rattle.checker_witness.specs.Ranges.{ChecksJoin, RangeAddsUp}
 use Rattle.checker_witness.proofs.UntilLaws.{joined}
 
@@ -41,7 +41,7 @@ module _ {F K : Type 0} (E : Extension F K) (traces : AirTraces F) (lookups : Li
     zeros_from r holds = subst (IsZeroOn auxiliary r) (sym values_are) holds
 
   -- the first row that fails in a range, after rows that hold, is the first of all
-  pub first_failing : (result : AirResult K) (first end r : ℕ) → ((s : ℕ) → s < first → HoldsOnRow E traces lookups challenges result.0 result.1 s) → end ≤ height traces.main → ColumnsHoldUntil E traces lookups challenges result first end r → r < end → IsFirstFailingRow E traces lookups challenges result r
+  pub first_failing : (result : AirResult K) (first end r : ℕ) → ((s : ℕ) → s < first → HoldsOnRow E traces lookups challenges result.0 result.1 s) → end ≤ height traces.main → ColumnsHoldUntil E traces lookups challenges result first end r → r < end → IsFirstFailingRowOfColumns E traces lookups challenges result r
   first_failing result first end r so_far within until lt = record {
     within = omega (arith, lt, within);
     fails = until.fails lt;

@@ -7,7 +7,7 @@ use Rattle.std.proofs.lemmas.Bool.{cases_lt, eqb-false, eqb-true, ne_eqb}
 use Rattle.std.proofs.lemmas.List.{drop-append-le, drop-drop, drop-take, length-append, length-drop, length-take, take-append-le, take-take}
 use Rattle.std.specs.List.{slice_range}
 use Rattle.matrix.specs.Matrix.{row}
-use Rattle.checker_witness.specs.Around.{around, place_of, rows_around}
+use Rattle.checker_witness.specs.Around.{around, place_of_first, rows_around}
 
 -- a number of rows further on, and their width
 more_rows : (a b w : ℕ) → (a + b) * w ≡ a * w + b * w
@@ -91,11 +91,11 @@ module _ {T : Type 0} (w : ℕ) where
 
     module _ (f : Bool) (test : (first == 0) ≡ f) where
       -- the same among the rows around the range
-      pub row_there : (k : ℕ) → first + k < h → k ≤ end - first → row_in (around w h first end xs) (place_of first + k) ≡ row_in xs (first + k)
+      pub row_there : (k : ℕ) → first + k < h → k ≤ end - first → row_in (around w h first end xs) (place_of_first first + k) ≡ row_in xs (first + k)
       unfolding middle tail
       row_there k lt le = by_test f test
         where
-          by_test : (b : Bool) → (first == 0) ≡ b → row_in (around w h first end xs) (place_of first + k) ≡ row_in xs (first + k)
+          by_test : (b : Bool) → (first == 0) ≡ b → row_in (around w h first end xs) (place_of_first first + k) ≡ row_in xs (first + k)
           by_test true e =
               ap (λ b. row_in (cond b [] (take w xs) ++ (middle ++ tail)) (cond b 0 1 + k)) e ∙ ap (row_in (middle ++ tail)) (omega arith) ∙ row_of_rest k lt le
           by_test false e =
@@ -126,14 +126,14 @@ module _ {T : Type 0} (w : ℕ) where
                   none_before = omega arith
 
 -- the rows around a range are those of the range, and those before
-pub rows_within : (h first end : ℕ) → place_of first + (end - first) ≤ rows_around h first end
+pub rows_within : (h first end : ℕ) → place_of_first first + (end - first) ≤ rows_around h first end
 rows_within h first end = omega arith
 
 module _ {T : Type 0} (w h first end : ℕ) (xs : List T) (from : first < end) (up_to : end ≤ h) (long : length xs ≡ h * w) where
   front : List T
   front = cond (first == 0) [] (take w xs)
 
-  length-front : (b : Bool) → (first == 0) ≡ b → length (cond (first == 0) [] (take w xs)) ≡ place_of first * w
+  length-front : (b : Bool) → (first == 0) ≡ b → length (cond (first == 0) [] (take w xs)) ≡ place_of_first first * w
   length-front true e = ap (λ c. length (cond c [] (take w xs))) e ∙ omega arith ∙ ap (λ c. cond c 0 1 * w) (sym e)
   length-front false e =
       ap (λ c. length (cond c [] (take w xs))) e ∙ length-take w xs ∙ omega (arith, fewer_rows 1 h w (omega (arith, from, up_to)), long) ∙ ap (λ c. cond c 0 1 * w) (sym e)
@@ -153,32 +153,32 @@ module _ {T : Type 0} (w h first end : ℕ) (xs : List T) (from : first < end) (
       let tail = cond (end == h) [] (slice_range xs (end * w) ((end + 1) * w)) in
       length-append (cond (first == 0) [] (take w xs)) (middle ++ tail) ∙ ap (λ n. length (cond (first == 0) [] (take w xs)) + n) (length-append middle tail)
       ∙ (λ i. length-front (first == 0) refl i + (length-middle w h first end xs (omega (arith, from)) up_to long i + length-tail (end == h) refl i))
-      ∙ omega (arith, more_rows (place_of first + (end - first)) (cond (end == h) 0 1) w, more_rows (place_of first) (end - first) w)
+      ∙ omega (arith, more_rows (place_of_first first + (end - first)) (cond (end == h) 0 1) w, more_rows (place_of_first first) (end - first) w)
 
 module _ {T : Type 0} (w h first end : ℕ) (xs : List T) (from : first < end) (up_to : end ≤ h) (long : length xs ≡ h * w) (k : ℕ) (within : first + k < end) where
   -- the next row is the same, also after the last row
-  pub next_there : row_in w (around w h first end xs) ((place_of first + k + 1) % rows_around h first end) ≡ row_in w xs ((first + k + 1) % h)
+  pub next_there : row_in w (around w h first end xs) ((place_of_first first + k + 1) % rows_around h first end) ≡ row_in w xs ((first + k + 1) % h)
   next_there = by_end (cases_lt (first + k + 1) h) (first == 0) refl (end == h) refl
     where
-      by_end : (first + k + 1 < h) ⊎ (h ≤ first + k + 1) → (f : Bool) → ◌≡◌ {A = Bool} (first == 0) f → (b : Bool) → ◌≡◌ {A = Bool} (end == h) b → row_in w (around w h first end xs) ((place_of first + k + 1) % (place_of first + (end - first) + cond (end == h) 0 1)) ≡ row_in w xs ((first + k + 1) % h)
+      by_end : (first + k + 1 < h) ⊎ (h ≤ first + k + 1) → (f : Bool) → ◌≡◌ {A = Bool} (first == 0) f → (b : Bool) → ◌≡◌ {A = Bool} (end == h) b → row_in w (around w h first end xs) ((place_of_first first + k + 1) % (place_of_first first + (end - first) + cond (end == h) 0 1)) ≡ row_in w xs ((first + k + 1) % h)
       by_end (inl further) f test true e =
           let last : end ≡ h = eqb-true end h e in
-          let below : place_of first + k + 1 < place_of first + (end - first) + cond (end == h) 0 1 = omega (arith, further, last, from) in
+          let below : place_of_first first + k + 1 < place_of_first first + (end - first) + cond (end == h) 0 1 = omega (arith, further, last, from) in
           ap (row_in w (around w h first end xs)) (mod-eq_of_lt below ∙ omega arith)
           ∙ row_there w h first end xs (omega (arith, from)) up_to long f test (k + 1) (omega (arith, further)) (omega (arith, further, last, from))
           ∙ ap (row_in w xs) (omega arith ∙ sym (mod-eq_of_lt further))
       by_end (inl further) f test false e =
           let one : ◌≡◌ {A = ℕ} (cond (end == h) 0 1) 1 = ap (λ b. cond b 0 1) e in
-          let below : place_of first + k + 1 < place_of first + (end - first) + cond (end == h) 0 1 = omega (arith, within, one) in
+          let below : place_of_first first + k + 1 < place_of_first first + (end - first) + cond (end == h) 0 1 = omega (arith, within, one) in
           ap (row_in w (around w h first end xs)) (mod-eq_of_lt below ∙ omega arith)
           ∙ row_there w h first end xs (omega (arith, from)) up_to long f test (k + 1) (omega (arith, further)) (omega (arith, within))
           ∙ ap (row_in w xs) (omega arith ∙ sym (mod-eq_of_lt further))
       by_end (inr last) f test true e =
           let all : end ≡ h = eqb-true end h e in
           let none : ◌≡◌ {A = ℕ} (cond (end == h) 0 1) 0 = ap (λ b. cond b 0 1) e in
-          let size : place_of first + k + 1 ≡ place_of first + (end - first) + cond (end == h) 0 1 = omega (arith, last, within, all, none) in
+          let size : place_of_first first + k + 1 ≡ place_of_first first + (end - first) + cond (end == h) 0 1 = omega (arith, last, within, all, none) in
           let whole : first + k + 1 ≡ h = omega (arith, last, within, up_to) in
-          ap (row_in w (around w h first end xs)) (ap (λ n. n % (place_of first + (end - first) + cond (end == h) 0 1)) size ∙ mod_self (place_of first + (end - first) + cond (end == h) 0 1))
+          ap (row_in w (around w h first end xs)) (ap (λ n. n % (place_of_first first + (end - first) + cond (end == h) 0 1)) size ∙ mod_self (place_of_first first + (end - first) + cond (end == h) 0 1))
           ∙ first_there w h first end xs (omega (arith, from)) up_to long f test from
           ∙ ap (row_in w xs) (sym (ap (λ n. n % h) whole ∙ mod_self h))
       by_end (inr last) f test false e = absurd (eqb-false end h e (omega (arith, last, within, up_to)))

@@ -8,7 +8,7 @@ use Rattle.lookup_model.specs.declared.types.Lookup.{Lookup}
 use Rattle.lookup_model.specs.declared.types.LookupTerminal.{LookupTerminal}
 use Rattle.checker_witness.proofs.WholeAnswers.{has_columns}
 use Rattle.checker_witness.proofs.WindowsAround.{holds_here, holds_there}
-use Rattle.checker_witness.specs.Around.{AreAround, IsMatrixAround, IsRange, matrix_around, place_of}
+use Rattle.checker_witness.specs.Around.{AreAround, IsMatrixAround, IsRange, matrix_around, place_of_first}
 use Rattle.checker_witness.specs.declared.range.RowRange.{RowRange}
 use Rattle.matrix.specs.Matrix.{Matrix}
 
@@ -40,13 +40,13 @@ module _ {F K : Type 0} (E : Extension F K) (whole part : AirTraces F) (lookups 
   abbrev Around : AirTraces F → Matrix K → ℕ → Type 0
   Around traces matrix r = HoldsOnRow E traces lookups challenges matrix terminal r
 
-  pub check_there : (r : ℕ) → HoldsUntil (Around part aux) (place_of range.first) (place_of range.first + (range.end - range.first)) r
-      → HoldsUntil (Around whole auxiliary) range.first range.end (range.first + (r - place_of range.first))
+  pub check_there : (r : ℕ) → HoldsUntil (Around part aux) (place_of_first range.first) (place_of_first range.first + (range.end - range.first)) r
+      → HoldsUntil (Around whole auxiliary) range.first range.end (range.first + (r - place_of_first range.first))
   check_there r until =
       let n = range.end - range.first in
       let ends : range.first + n ≡ range.end = omega (arith, some.some) in
       let wide = has_columns whole.main range.first (omega (arith, within, some.some)) in
-      let p = place_of range.first in
+      let p = place_of_first range.first in
       subst (λ e. HoldsUntil (Around whole auxiliary) range.first e (range.first + (r - p))) ends
       (until_there (Around part aux) (Around whole auxiliary) p range.first n r
       (λ k lt holds. holds_there whole range.first range.end some.some within are.main wide are.preprocessed k (omega (arith, lt, some.some)) challenges auxiliary terminal full E lookups

@@ -16,7 +16,7 @@ use Rattle.lookup_model.specs.Trace.{sent_row, sent_rows}
 use Rattle.lookup_model.specs.declared.types.Lookup.{Lookup}
 use Rattle.matrix.specs.Matrix.{Matrix, height, row}
 use Rattle.checker_witness.proofs.RowsAround.{length-around, next_there, row_is, row_there, rows_within}
-use Rattle.checker_witness.specs.Around.{around, matrix_around, option_around, place_of, rows_around, traces_around}
+use Rattle.checker_witness.specs.Around.{around, matrix_around, option_around, place_of_first, rows_around, traces_around}
 
 -- two tests of equality that say the same
 same_test : (a b c d : ℕ) → (a ≡ b → c ≡ d) → (c ≡ d → a ≡ b) → (a == b) ≡ (c == d)
@@ -29,7 +29,7 @@ same_test a b c d to from = by_tests (a == b) refl (c == d) refl
     by_tests false e true f = absurd (eqb-false a b e (from (eqb-true c d f)))
 
 -- where a row stands
-place_by : (first : ℕ) (b : Bool) → ◌≡◌ {A = Bool} (first == 0) b → place_of first ≡ cond b 0 1
+place_by : (first : ℕ) (b : Bool) → ◌≡◌ {A = Bool} (first == 0) b → place_of_first first ≡ cond b 0 1
 place_by first b e = ap (λ c. cond c 0 1) e
 
 -- the parts of a range from its list
@@ -87,50 +87,50 @@ module _ {F : Type 0} (traces : AirTraces F) (first end : ℕ) (from : first < e
   height_around = height_there (around traces.main.width (height_of traces) first end traces.main.values) traces.main.width (rows_around (height_of traces) first end) wide (length-around traces.main.width (height_of traces) first end traces.main.values from up_to long)
 
   module _ (k : ℕ) (within : first + k < end) where
-    matrix_row : {T : Type 0} (m : Matrix T) → length m.values ≡ height_of traces * m.width → row (matrix_around (height_of traces) first end m) (place_of first + k) ≡ row m (first + k)
+    matrix_row : {T : Type 0} (m : Matrix T) → length m.values ≡ height_of traces * m.width → row (matrix_around (height_of traces) first end m) (place_of_first first + k) ≡ row m (first + k)
     matrix_row m full =
-        row_is m.width (around m.width (height_of traces) first end m.values) (place_of first + k)
+        row_is m.width (around m.width (height_of traces) first end m.values) (place_of_first first + k)
         ∙ row_there m.width (height_of traces) first end m.values (omega (arith, from)) up_to full (first == 0) refl k (omega (arith, within, up_to)) (omega (arith, within))
         ∙ sym (row_is m.width m.values (first + k))
 
-    matrix_next : {T : Type 0} (m : Matrix T) → length m.values ≡ height_of traces * m.width → row (matrix_around (height_of traces) first end m) ((place_of first + k + 1) % rows_around (height_of traces) first end) ≡ row m ((first + k + 1) % height_of traces)
+    matrix_next : {T : Type 0} (m : Matrix T) → length m.values ≡ height_of traces * m.width → row (matrix_around (height_of traces) first end m) ((place_of_first first + k + 1) % rows_around (height_of traces) first end) ≡ row m ((first + k + 1) % height_of traces)
     matrix_next m full =
-        row_is m.width (around m.width (height_of traces) first end m.values) ((place_of first + k + 1) % rows_around (height_of traces) first end)
+        row_is m.width (around m.width (height_of traces) first end m.values) ((place_of_first first + k + 1) % rows_around (height_of traces) first end)
         ∙ next_there m.width (height_of traces) first end m.values from up_to full k within
         ∙ sym (row_is m.width m.values ((first + k + 1) % height_of traces))
 
-    option_row : (o : Option (Matrix F)) → ForSome o (λ m. length m.values ≡ height_of traces * m.width) → row_of_option (option_around (height_of traces) first end o) (place_of first + k) ≡ row_of_option o (first + k)
+    option_row : (o : Option (Matrix F)) → ForSome o (λ m. length m.values ≡ height_of traces * m.width) → row_of_option (option_around (height_of traces) first end o) (place_of_first first + k) ≡ row_of_option o (first + k)
     option_row None full = refl
     option_row (Some m) full = matrix_row m (full m refl)
 
-    option_next : (o : Option (Matrix F)) → ForSome o (λ m. length m.values ≡ height_of traces * m.width) → row_of_option (option_around (height_of traces) first end o) ((place_of first + k + 1) % rows_around (height_of traces) first end) ≡ row_of_option o ((first + k + 1) % height_of traces)
+    option_next : (o : Option (Matrix F)) → ForSome o (λ m. length m.values ≡ height_of traces * m.width) → row_of_option (option_around (height_of traces) first end o) ((place_of_first first + k + 1) % rows_around (height_of traces) first end) ≡ row_of_option o ((first + k + 1) % height_of traces)
     option_next None full = refl
     option_next (Some m) full = matrix_next m (full m refl)
 
-    is_first : (place_of first + k == 0) ≡ (first + k == 0)
+    is_first : (place_of_first first + k == 0) ≡ (first + k == 0)
     is_first = by_test (first == 0) refl
       where
-        by_test : (b : Bool) → ◌≡◌ {A = Bool} (first == 0) b → (place_of first + k == 0) ≡ (first + k == 0)
-        by_test true e = let none : first ≡ 0 = eqb-true first 0 e in same_test (place_of first + k) 0 (first + k) 0 (λ z. omega (arith, z, none)) (λ z. omega (arith, z, place_by first true e))
-        by_test false e = let some = eqb-false first 0 e in same_test (place_of first + k) 0 (first + k) 0 (λ z. absurd (omega (arith, z, place_by first false e))) (λ z. absurd (some (omega (arith, z))))
+        by_test : (b : Bool) → ◌≡◌ {A = Bool} (first == 0) b → (place_of_first first + k == 0) ≡ (first + k == 0)
+        by_test true e = let none : first ≡ 0 = eqb-true first 0 e in same_test (place_of_first first + k) 0 (first + k) 0 (λ z. omega (arith, z, none)) (λ z. omega (arith, z, place_by first true e))
+        by_test false e = let some = eqb-false first 0 e in same_test (place_of_first first + k) 0 (first + k) 0 (λ z. absurd (omega (arith, z, place_by first false e))) (λ z. absurd (some (omega (arith, z))))
 
-    is_last : (place_of first + k + 1 == rows_around (height_of traces) first end) ≡ (first + k + 1 == height_of traces)
+    is_last : (place_of_first first + k + 1 == rows_around (height_of traces) first end) ≡ (first + k + 1 == height_of traces)
     is_last = by_test (end == height_of traces) refl
       where
-        by_test : (b : Bool) → ◌≡◌ {A = Bool} (end == height_of traces) b → (place_of first + k + 1 == place_of first + (end - first) + cond (end == height_of traces) 0 1) ≡ (first + k + 1 == height_of traces)
+        by_test : (b : Bool) → ◌≡◌ {A = Bool} (end == height_of traces) b → (place_of_first first + k + 1 == place_of_first first + (end - first) + cond (end == height_of traces) 0 1) ≡ (first + k + 1 == height_of traces)
         by_test true e =
             let all : end ≡ height_of traces = eqb-true end (height_of traces) e in
             let none : ◌≡◌ {A = ℕ} (cond (end == height_of traces) 0 1) 0 = ap (λ b. cond b 0 1) e in
-            same_test (place_of first + k + 1) (place_of first + (end - first) + cond (end == height_of traces) 0 1) (first + k + 1) (height_of traces) (λ z. omega (arith, z, all, none, from)) (λ z. omega (arith, z, all, none, from))
+            same_test (place_of_first first + k + 1) (place_of_first first + (end - first) + cond (end == height_of traces) 0 1) (first + k + 1) (height_of traces) (λ z. omega (arith, z, all, none, from)) (λ z. omega (arith, z, all, none, from))
         by_test false e =
             let further : end < height_of traces = omega (arith, up_to, eqb-false end (height_of traces) e) in
             let one : ◌≡◌ {A = ℕ} (cond (end == height_of traces) 0 1) 1 = ap (λ b. cond b 0 1) e in
-            same_test (place_of first + k + 1) (place_of first + (end - first) + cond (end == height_of traces) 0 1) (first + k + 1) (height_of traces) (λ z. absurd (omega (arith, z, one, within))) (λ z. absurd (omega (arith, z, further, within)))
+            same_test (place_of_first first + k + 1) (place_of_first first + (end - first) + cond (end == height_of traces) 0 1) (first + k + 1) (height_of traces) (λ z. absurd (omega (arith, z, one, within))) (λ z. absurd (omega (arith, z, further, within)))
 
     -- the window of a row of the range
-    pub window_there : window_of (traces_around first end traces) (place_of first + k) ≡ window_of traces (first + k)
+    pub window_there : window_of (traces_around first end traces) (place_of_first first + k) ≡ window_of traces (first + k)
     window_there =
-        ap (λ n. window_at (matrix_around (height_of traces) first end traces.main) (option_around (height_of traces) first end traces.preprocessed) traces.public_values n (place_of first + k)) height_around
+        ap (λ n. window_at (matrix_around (height_of traces) first end traces.main) (option_around (height_of traces) first end traces.preprocessed) traces.public_values n (place_of_first first + k)) height_around
         ∙ (λ i. record {
           main = matrix_row traces.main long i;
           main_next = matrix_next traces.main long i;
@@ -144,10 +144,10 @@ module _ {F : Type 0} (traces : AirTraces F) (first end : ℕ) (from : first < e
 
     module _ {K : Type 0} (challenges : List K) (auxiliary : Matrix K) (terminal : Option (LookupTerminal K)) (full : length auxiliary.values ≡ height_of traces * auxiliary.width) where
       -- the window of a witness, with the rows around the range of its auxiliary trace
-      pub witness_there : witness_window (traces_around first end traces) challenges (matrix_around (height_of traces) first end auxiliary) terminal (place_of first + k) ≡ witness_window traces challenges auxiliary terminal (first + k)
+      pub witness_there : witness_window (traces_around first end traces) challenges (matrix_around (height_of traces) first end auxiliary) terminal (place_of_first first + k) ≡ witness_window traces challenges auxiliary terminal (first + k)
       witness_there =
-          let next : row (matrix_around (height_of traces) first end auxiliary) ((place_of first + k + 1) % height_of (traces_around first end traces)) ≡ row auxiliary ((first + k + 1) % height_of traces) =
-          ap (λ n. row (matrix_around (height_of traces) first end auxiliary) ((place_of first + k + 1) % n)) height_around ∙ matrix_next auxiliary full in
+          let next : row (matrix_around (height_of traces) first end auxiliary) ((place_of_first first + k + 1) % height_of (traces_around first end traces)) ≡ row auxiliary ((first + k + 1) % height_of traces) =
+          ap (λ n. row (matrix_around (height_of traces) first end auxiliary) ((place_of_first first + k + 1) % n)) height_around ∙ matrix_next auxiliary full in
           λ i. record {
             base = window_there i;
             permutation = matrix_row auxiliary full i;
@@ -157,25 +157,25 @@ module _ {F : Type 0} (traces : AirTraces F) (first end : ℕ) (from : first < e
           }
 
       -- So the constraints hold on a row of the range exactly if they do among the rows around it.
-      pub holds_there : (E : Extension F K) (lookups : List (Lookup F)) → HoldsOnRow E (traces_around first end traces) lookups challenges (matrix_around (height_of traces) first end auxiliary) terminal (place_of first + k) → HoldsOnRow E traces lookups challenges auxiliary terminal (first + k)
+      pub holds_there : (E : Extension F K) (lookups : List (Lookup F)) → HoldsOnRow E (traces_around first end traces) lookups challenges (matrix_around (height_of traces) first end auxiliary) terminal (place_of_first first + k) → HoldsOnRow E traces lookups challenges auxiliary terminal (first + k)
       holds_there E lookups holds = subst (λ w. AllByRecursion (λ constraint. constraint.meaning w ≡ E.ring.zero) (lookup_constraints E lookups)) witness_there holds
 
-      pub holds_here : (E : Extension F K) (lookups : List (Lookup F)) → HoldsOnRow E traces lookups challenges auxiliary terminal (first + k) → HoldsOnRow E (traces_around first end traces) lookups challenges (matrix_around (height_of traces) first end auxiliary) terminal (place_of first + k)
+      pub holds_here : (E : Extension F K) (lookups : List (Lookup F)) → HoldsOnRow E traces lookups challenges auxiliary terminal (first + k) → HoldsOnRow E (traces_around first end traces) lookups challenges (matrix_around (height_of traces) first end auxiliary) terminal (place_of_first first + k)
       holds_here E lookups holds = subst (λ w. AllByRecursion (λ constraint. constraint.meaning w ≡ E.ring.zero) (lookup_constraints E lookups)) (sym witness_there) holds
 
   -- So what is sent on the rows of the range is the same.
-  pub sent_there : (R : Ring F) (eq : F → F → Bool) (lookups : List (Lookup F)) → slice_range (sent_rows R eq (traces_around first end traces) lookups) (place_of first) (place_of first + (end - first)) ≡ slice_range (sent_rows R eq traces lookups) first end
+  pub sent_there : (R : Ring F) (eq : F → F → Bool) (lookups : List (Lookup F)) → slice_range (sent_rows R eq (traces_around first end traces) lookups) (place_of_first first) (place_of_first first + (end - first)) ≡ slice_range (sent_rows R eq traces lookups) first end
   sent_there R eq lookups =
       let f = λ (r : ℕ). sent_row R eq (window_of (traces_around first end traces) r) lookups in
       let g = λ (r : ℕ). sent_row R eq (window_of traces r) lookups in
-      let size : place_of first + (end - first) - place_of first ≡ end - first = omega arith in
-      range_part f (height_of (traces_around first end traces)) (place_of first) (place_of first + (end - first)) (omega arith) (fits height_around)
-      ∙ ap (λ n. map f (range_with_len (place_of first) n)) size
-      ∙ same_mapped f g (place_of first) first (end - first) (λ k lt. ap (λ w. sent_row R eq w lookups) (window_there k (omega (arith, lt))))
+      let size : place_of_first first + (end - first) - place_of_first first ≡ end - first = omega arith in
+      range_part f (height_of (traces_around first end traces)) (place_of_first first) (place_of_first first + (end - first)) (omega arith) (fits height_around)
+      ∙ ap (λ n. map f (range_with_len (place_of_first first) n)) size
+      ∙ same_mapped f g (place_of_first first) first (end - first) (λ k lt. ap (λ w. sent_row R eq w lookups) (window_there k (omega (arith, lt))))
       ∙ sym (range_part g (height_of traces) first end (omega (arith, from)) up_to)
     where
-      fits : height_of (traces_around first end traces) ≡ rows_around (height_of traces) first end → place_of first + (end - first) ≤ height_of (traces_around first end traces)
+      fits : height_of (traces_around first end traces) ≡ rows_around (height_of traces) first end → place_of_first first + (end - first) ≤ height_of (traces_around first end traces)
       fits high = omega (arith, high, below)
         where
-          below : place_of first + (end - first) ≤ rows_around (height_of traces) first end
+          below : place_of_first first + (end - first) ≤ rows_around (height_of traces) first end
           below = rows_within (height_of traces) first end

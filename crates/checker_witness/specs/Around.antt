@@ -13,12 +13,12 @@ pub record IsRange (range : RowRange) : Type 0 where
 
 -- where row `first` stands among the rows around a range that begins with it: after the first row of
 -- the trace, if that is another one
-abbrev pub place_of : ℕ → ℕ
-place_of first = if first == 0 then 0 else 1
+abbrev pub place_of_first : ℕ → ℕ
+place_of_first first = if first == 0 then 0 else 1
 
 -- how many rows stand around a range of a trace of h rows
 abbrev pub rows_around : ℕ → ℕ → ℕ → ℕ
-rows_around h first end = place_of first + (end - first) + (if end == h then 0 else 1)
+rows_around h first end = place_of_first first + (end - first) + (if end == h then 0 else 1)
 
 -- Of values in rows of a width, h of them: the first row, if the range does not begin with it; the rows
 -- from `first` up to `end`; and the row after them, if there is one. Where the range ends with the

@@ -31,14 +31,14 @@ module _ {F K : Type 0} (E : Extension F K) (traces : AirTraces F) (lookups : Li
   ColumnsHoldUntil = HoldsUntil (HoldsOnRow E traces lookups challenges result.0 result.1)
 
   -- row r is the first on which a constraint is not zero
-  abbrev pub IsFirstFailingRow : ℕ → Type 0
-  IsFirstFailingRow r = FailsFirstAt (HoldsOnRow E traces lookups challenges result.0 result.1) (height_of traces) r
+  abbrev pub IsFirstFailingRowOfColumns : ℕ → Type 0
+  IsFirstFailingRowOfColumns r = FailsFirstAt (HoldsOnRow E traces lookups challenges result.0 result.1) (height_of traces) r
 
   -- the refusal of the shape, else at the first row where a constraint fails; of AIR `air`
   abbrev pub IsColumnsRefusal : ℕ → LookupError → Type 0
   IsColumnsRefusal air e =
       IsShapeRefusal air (without_ids traces lookups) result e
-      ⊎ (HasShapeAt (without_ids traces lookups) result × ((r : ℕ) × IsFirstFailingRow r × (e ≡ ConstraintFailed air r)))
+      ⊎ (HasShapeAt (without_ids traces lookups) result × ((r : ℕ) × IsFirstFailingRowOfColumns r × (e ≡ ConstraintFailed air r)))
 
   -- a satisfied result, whose terminal is the sum of its fractions; or its refusal; or memory runs out
   abbrev pub ChecksColumns : ℕ → Result (Unit {0}) LookupError → Type 0

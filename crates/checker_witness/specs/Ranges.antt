@@ -6,7 +6,7 @@ use Rattle.lookup_model.specs.Challenges.{ChallengeTable}
 use Rattle.lookup_model.specs.declared.error.LookupError.{LookupError}
 use Rattle.lookup_model.specs.declared.error.LookupError.TheVariants.{Memory}
 use Rattle.lookup_model.specs.Batches.Instances.{Instance}
-use Rattle.lookup_model.specs.Batches.Refusals.{HasShapeAt, HoldsAt, IsAirRefusal, IsFirstFailing, IsShapeRefusal}
+use Rattle.lookup_model.specs.Batches.Refusals.{HasShapeAt, HoldsAt, IsAirRefusal, IsFirstFailingRowOfInstance, IsShapeRefusal}
 use Rattle.lookup_model.specs.Batches.Witnesses.{AirResult, IsSatisfiedAt}
 use Rattle.lookup_model.specs.Witness.{AddUp, TerminalIsSum}
 
@@ -48,4 +48,4 @@ module _ {F K : Type 0} (E : Extension F K) (table : ChallengeTable K) where
     pub fails : (first middle end r : ℕ) → middle ≤ end → r < middle → RowsHoldUntil i result first middle r → RowsHoldUntil i result first end r
     pub all_rows : HasShapeAt i result → (0 < length i.lookups → 0 < height_of i.traces) → RowsHoldUntil i result 0 (height_of i.traces) (height_of i.traces) → IsSatisfiedAt E table i result × TerminalIsSum E i.traces i.lookups result.0 result.1
     pub sums : HasShapeAt i result → (first end r : ℕ) → end ≤ height_of i.traces → RowsHoldUntil i result first end r → RangeAddsUp E i result first end r
-    pub refused : (r : ℕ) → r < height_of i.traces → RowsHoldUntil i result 0 (height_of i.traces) r → IsFirstFailing E table i result r
+    pub refused : (r : ℕ) → r < height_of i.traces → RowsHoldUntil i result 0 (height_of i.traces) r → IsFirstFailingRowOfInstance E table i result r

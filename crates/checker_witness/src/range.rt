@@ -1,6 +1,6 @@
 //! Ranges of rows.
 ghost use Rattle.std.specs.Prelude.{◌≡◌, ◌-◌, ◌<◌, ◌≤◌, ◌^◌};
-ghost use Rattle.checker_witness.specs.Around.{IsRange, place_of, rows_around};
+ghost use Rattle.checker_witness.specs.Around.{IsRange, place_of_first, rows_around};
 
 /// The rows from `first` up to `end` of a trace that has `height` rows.
 #[derive(Clone, Copy, Debug)]
@@ -16,7 +16,7 @@ pub struct RowRange {
 impl RowRange {
     /// Where row `first` stands among the rows around the range: after row 0, unless it is that one.
     pub fn place(self) -> usize
-        ensures { result ≡ place_of self.first }
+        ensures { result ≡ place_of_first self.first }
     {
         if self.first == 0 { 0 } else { 1 }
     }

@@ -4,7 +4,7 @@ ghost use Rattle.air.specs.Traces.{AirTraces, height_of, layout_of, traces_of};
 ghost use Rattle.lookup_generation.specs.Ranges.{AnswersRows};
 ghost use Rattle.lookup_model.specs.Records.{LookupsFit};
 ghost use Rattle.checker_witness.specs.Around.{AreAround, IsRange, rows_around};
-ghost use Rattle.checker_witness.specs.internal.Renumbered.{renumbered};
+ghost use Rattle.checker_witness.specs.internal.Renumbered.{renumbered_fault};
 
 use crate::range::RowRange;
 use air::Traces;
@@ -52,7 +52,7 @@ pub fn generate_around<F: Field, EF: ExtensionField<F>>(
 
 /// An error that names its row in the whole trace, where row `from` of the traces around is row `to`.
 fn in_whole(error: LookupError, from: usize, to: usize) -> LookupError
-    ensures { result ≡ renumbered from to error }
+    ensures { result ≡ renumbered_fault from to error }
 {
     match error {
         LookupError::VanishingDenominator { row, lookup } => LookupError::VanishingDenominator {

@@ -11,7 +11,7 @@ use Rattle.field.specs.Extension.{Extension, IsLawful}
 use Rattle.lookup_model.specs.Message.{Key, Message, same_key}
 use Rattle.lookup_model.specs.Fault.{vanishes}
 use Rattle.lookup_model.specs.Net.{first_seen, keys, net, unbalanced_keys}
-use Rattle.lookup_model.specs.Plain.{counted, net_sum, quotient}
+use Rattle.lookup_model.specs.Plain.{counted_messages, net_sum, quotient}
 use Rattle.generation_tests.specs.PlainProgram.{as_message, as_messages, net_vanishes}
 use Rattle.generation_tests.specs.declared.plain.PlainMessage.{PlainMessage}
 use Rattle.generation_tests.specs.internal.PlainProgram.{IsSumOfQuotients, net_message}
@@ -64,38 +64,38 @@ module _ {F K : Type 0} {E : Extension F K} (laws : IsLawful E) (denominator : K
       record {
         value =
             next_is ∙ (λ i. E.ring.add (first.value i) (second.value i))
-            ∙ sym (sum_in-append laws.ring (map of_message (counted E.base E.base_eq ms)) (map of_message (counted E.base E.base_eq ns)))
-            ∙ ap (sum_in E.ring) (sym (map-append of_message (counted E.base E.base_eq ms) (counted E.base E.base_eq ns)))
+            ∙ sym (sum_in-append laws.ring (map of_message (counted_messages E.base E.base_eq ms)) (map of_message (counted_messages E.base E.base_eq ns)))
+            ∙ ap (sum_in E.ring) (sym (map-append of_message (counted_messages E.base E.base_eq ms) (counted_messages E.base E.base_eq ns)))
             ∙ ap (λ ts. sum_in E.ring (map of_message ts)) (sym same);
         divides =
             ap (vanishes E denominator) same
-            ∙ list_any-append (λ m. E.eq (denominator m.key) E.ring.zero) (counted E.base E.base_eq ms) (counted E.base E.base_eq ns)
+            ∙ list_any-append (λ m. E.eq (denominator m.key) E.ring.zero) (counted_messages E.base E.base_eq ms) (counted_messages E.base E.base_eq ns)
             ∙ (λ i. first.divides i || second.divides i);
       }
 
   -- messages of which some vanish do
-  pub vanishes_among : (ms ns rest : List (Message F)) → vanishes E denominator (counted E.base E.base_eq ns) ≡ true → vanishes E denominator (counted E.base E.base_eq ((ms ++ ns) ++ rest)) ≡ true
+  pub vanishes_among : (ms ns rest : List (Message F)) → vanishes E denominator (counted_messages E.base E.base_eq ns) ≡ true → vanishes E denominator (counted_messages E.base E.base_eq ((ms ++ ns) ++ rest)) ≡ true
   vanishes_among ms ns rest e =
       let is_zero = λ (n : Message F). E.eq (denominator n.key) E.ring.zero in
       let counts = λ (m : Message F). not (E.base_eq m.multiplicity E.base.zero) in
-      ap (list_any is_zero) (filter-append counts (ms ++ ns) rest ∙ ap (λ t. t ++ counted E.base E.base_eq rest) (filter-append counts ms ns))
-      ∙ list_any-append is_zero (counted E.base E.base_eq ms ++ counted E.base E.base_eq ns) (counted E.base E.base_eq rest)
-      ∙ or_left (list_any is_zero (counted E.base E.base_eq ms ++ counted E.base E.base_eq ns)) (list_any is_zero (counted E.base E.base_eq rest))
-      (list_any-append is_zero (counted E.base E.base_eq ms) (counted E.base E.base_eq ns) ∙ or_right (list_any is_zero (counted E.base E.base_eq ms)) (list_any is_zero (counted E.base E.base_eq ns)) e)
+      ap (list_any is_zero) (filter-append counts (ms ++ ns) rest ∙ ap (λ t. t ++ counted_messages E.base E.base_eq rest) (filter-append counts ms ns))
+      ∙ list_any-append is_zero (counted_messages E.base E.base_eq ms ++ counted_messages E.base E.base_eq ns) (counted_messages E.base E.base_eq rest)
+      ∙ or_left (list_any is_zero (counted_messages E.base E.base_eq ms ++ counted_messages E.base E.base_eq ns)) (list_any is_zero (counted_messages E.base E.base_eq rest))
+      (list_any-append is_zero (counted_messages E.base E.base_eq ms) (counted_messages E.base E.base_eq ns) ∙ or_right (list_any is_zero (counted_messages E.base E.base_eq ms)) (list_any is_zero (counted_messages E.base E.base_eq ns)) e)
 
   -- a key with its net is counted where it is unbalanced
-  pub counted_nets : (ms : List (Message F)) (ks : List (Key F)) → counted E.base E.base_eq (map (net_message E.base E.base_eq ms) ks) ≡ map (net_message E.base E.base_eq ms) (filter (λ key. not (E.base_eq (net E.base E.base_eq ms key) E.base.zero)) ks)
+  pub counted_nets : (ms : List (Message F)) (ks : List (Key F)) → counted_messages E.base E.base_eq (map (net_message E.base E.base_eq ms) ks) ≡ map (net_message E.base E.base_eq ms) (filter (λ key. not (E.base_eq (net E.base E.base_eq ms key) E.base.zero)) ks)
   counted_nets ms [] = refl
   counted_nets ms (k ∷ ks) = by_test (not (E.base_eq (net E.base E.base_eq ms k) E.base.zero)) (counted_nets ms ks)
     where
-      by_test : (b : Bool) → counted E.base E.base_eq (map (net_message E.base E.base_eq ms) ks) ≡ map (net_message E.base E.base_eq ms) (filter (λ key. not (E.base_eq (net E.base E.base_eq ms key) E.base.zero)) ks)
-          → cond b (net_message E.base E.base_eq ms k ∷ counted E.base E.base_eq (map (net_message E.base E.base_eq ms) ks)) (counted E.base E.base_eq (map (net_message E.base E.base_eq ms) ks))
+      by_test : (b : Bool) → counted_messages E.base E.base_eq (map (net_message E.base E.base_eq ms) ks) ≡ map (net_message E.base E.base_eq ms) (filter (λ key. not (E.base_eq (net E.base E.base_eq ms key) E.base.zero)) ks)
+          → cond b (net_message E.base E.base_eq ms k ∷ counted_messages E.base E.base_eq (map (net_message E.base E.base_eq ms) ks)) (counted_messages E.base E.base_eq (map (net_message E.base E.base_eq ms) ks))
           ≡ map (net_message E.base E.base_eq ms) (cond b (k ∷ filter (λ key. not (E.base_eq (net E.base E.base_eq ms key) E.base.zero)) ks) (filter (λ key. not (E.base_eq (net E.base E.base_eq ms key) E.base.zero)) ks))
       by_test true rest = ap (λ t. net_message E.base E.base_eq ms k ∷ t) rest
       by_test false rest = rest
 
   -- the denominators of the unbalanced keys
-  pub vanishing_nets : (ms : List (Message F)) → vanishes E denominator (counted E.base E.base_eq (map (net_message E.base E.base_eq ms) (keys E.base_eq ms))) ≡ net_vanishes E denominator ms
+  pub vanishing_nets : (ms : List (Message F)) → vanishes E denominator (counted_messages E.base E.base_eq (map (net_message E.base E.base_eq ms) (keys E.base_eq ms))) ≡ net_vanishes E denominator ms
   vanishing_nets ms = ap (vanishes E denominator) (counted_nets ms (keys E.base_eq ms)) ∙ any_mapped (unbalanced_keys E.base E.base_eq ms)
     where
       any_mapped : (ks : List (Key F)) → vanishes E denominator (map (net_message E.base E.base_eq ms) ks) ≡ list_any (λ key. E.eq (denominator key) E.ring.zero) ks
@@ -103,13 +103,13 @@ module _ {F K : Type 0} {E : Extension F K} (laws : IsLawful E) (denominator : K
       any_mapped (k ∷ ks) = ap (λ b. E.eq (denominator k) E.ring.zero || b) (any_mapped ks)
 
   -- and the sum of their quotients
-  pub sum_of_nets : (ms : List (Message F)) → sum_in E.ring (map (λ (m : Message F). quotient E denominator m.multiplicity m.key) (counted E.base E.base_eq (map (net_message E.base E.base_eq ms) (keys E.base_eq ms)))) ≡ net_sum E denominator ms
+  pub sum_of_nets : (ms : List (Message F)) → sum_in E.ring (map (λ (m : Message F). quotient E denominator m.multiplicity m.key) (counted_messages E.base E.base_eq (map (net_message E.base E.base_eq ms) (keys E.base_eq ms)))) ≡ net_sum E denominator ms
   sum_of_nets ms =
       ap (λ ts. sum_in E.ring (map (λ (m : Message F). quotient E denominator m.multiplicity m.key) ts)) (counted_nets ms (keys E.base_eq ms))
       ∙ ap (sum_in E.ring) (map-map (λ (m : Message F). quotient E denominator m.multiplicity m.key) (net_message E.base E.base_eq ms) (unbalanced_keys E.base E.base_eq ms))
 
   -- a key with its net vanishes where its net is not zero and its denominator is
-  alone_vanishes : (ms : List (Message F)) (k : Key F) → vanishes E denominator (counted E.base E.base_eq (net_message E.base E.base_eq ms k ∷ [])) ≡ true → (not (E.base_eq (net E.base E.base_eq ms k) E.base.zero) ≡ true) × (E.eq (denominator k) E.ring.zero ≡ true)
+  alone_vanishes : (ms : List (Message F)) (k : Key F) → vanishes E denominator (counted_messages E.base E.base_eq (net_message E.base E.base_eq ms k ∷ [])) ≡ true → (not (E.base_eq (net E.base E.base_eq ms k) E.base.zero) ≡ true) × (E.eq (denominator k) E.ring.zero ≡ true)
   alone_vanishes ms k e = by_test (not (E.base_eq (net E.base E.base_eq ms k) E.base.zero)) (E.eq (denominator k) E.ring.zero) refl e
     where
       by_test : (b d : Bool) → E.eq (denominator k) E.ring.zero ≡ d → vanishes E denominator (cond b (net_message E.base E.base_eq ms k ∷ []) []) ≡ true → (b ≡ true) × (d ≡ true)
@@ -143,7 +143,7 @@ module _ {F K : Type 0} {E : Extension F K} (laws : IsLawful E) (denominator : K
           kept (not (E.base_eq (net E.base E.base_eq ms j) E.base.zero)) (further (sym (ap (λ t. t || list_any (λ y. same_key E.base_eq y k) ks) e) ∙ held))
 
   -- so a message whose key vanishes with its net makes the nets do so
-  pub vanishing_net : (ms : List (Message F)) (i : ℕ) (m : Message F) → i < length ms → m ≡ get_or ms i m → vanishes E denominator (counted E.base E.base_eq (net_message E.base E.base_eq ms m.key ∷ [])) ≡ true → net_vanishes E denominator ms ≡ true
+  pub vanishing_net : (ms : List (Message F)) (i : ℕ) (m : Message F) → i < length ms → m ≡ get_or ms i m → vanishes E denominator (counted_messages E.base E.base_eq (net_message E.base E.base_eq ms m.key ∷ [])) ≡ true → net_vanishes E denominator ms ≡ true
   vanishing_net ms i m lt is e =
       let parts = alone_vanishes ms m.key e in
       let names = map (λ (n : Message F). n.key) ms in

@@ -9,7 +9,7 @@ ghost use Rattle.lookup_model.specs.Denominators.{key_denominator};
 ghost use Rattle.lookup_model.specs.Fault.{fault_of, set_indices, vanishes};
 ghost use Rattle.lookup_model.specs.Message.{Message, same_key};
 ghost use Rattle.lookup_model.specs.Net.{net};
-ghost use Rattle.lookup_model.specs.Plain.{counted, net_sum, plain_fraction, quotient};
+ghost use Rattle.lookup_model.specs.Plain.{counted_messages, net_sum, plain_fraction, quotient};
 ghost use Rattle.lookup_model.specs.Sent.{sent};
 
 use field::{ExtensionField, Field, Over};
@@ -33,7 +33,7 @@ pub fn fraction_of<F: Field, EF: ExtensionField<F>>(
     requires { All (λ m. 2 * m.id + 1 < length challenges.now) messages.now }
     ensures { let E = ⟦<EF as Over<F>>⟧.fields in
         let denominator = key_denominator E challenges.now in
-        let vanishing = vanishes E denominator (counted F.ring F.eq (as_messages messages.now)) in
+        let vanishing = vanishes E denominator (counted_messages F.ring F.eq (as_messages messages.now)) in
         MatchOption result (IsTrue vanishing)
         (λ f. (f ≡ plain_fraction E denominator (sent_of messages.now)) × (vanishing ≡ false)) }
 {
@@ -171,7 +171,7 @@ fn quotient_of<F: Field, EF: ExtensionField<F>>(
         let denominator = key_denominator E challenges.now in
         let alone : List (Message F) = record
         { key = (as_message message.now).key; multiplicity = multiplicity } ∷ [] in
-        MatchOption result (IsTrue (vanishes E denominator (counted F.ring F.eq alone)))
+        MatchOption result (IsTrue (vanishes E denominator (counted_messages F.ring F.eq alone)))
         (λ q. IsSumOfQuotients E denominator alone q) }
 {
     if multiplicity.is_zero() {

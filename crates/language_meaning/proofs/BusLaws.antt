@@ -3,7 +3,7 @@ use Rattle.std.proofs.Common.{◌≡◌, ◌++◌, ◌+◌, ◌<◌, ℕ, suc, f
 use Rattle.std.specs.Prelude.{is_some}
 use Rattle.std.proofs.Math.Seq.{take-suc}
 use Rattle.std.proofs.lemmas.List.{map-append}
-use Rattle.lookup_text.specs.Batches.{Bus, Section, bus, air, bus_of, section_of}
+use Rattle.lookup_text.specs.Batches.{Bus, Section, bus, air, bus_section_of, section_of}
 use Rattle.lookup_text.specs.declared.batch.AirText.{AirText}
 use Rattle.lookup_text.specs.declared.batch.BusText.{BusText}
 use Rattle.lookup_text.specs.declared.batch.SectionText.{SectionText}
@@ -47,8 +47,8 @@ pub new_bus : (text : List ℕ) (sections : List SectionText) (i : ℕ) (s : Sec
     → is_some (declared_width text (bytes_in b.name text) (first_buses sections i)) ≡ false
     → distinct_after text (first_buses sections (i + 1)) (last_buses sections (i + 1)) ≡ distinct_after text (first_buses sections i) (last_buses sections i)
 new_bus text sections i s b within e is new =
-    let more : first_buses sections (i + 1) ≡ first_buses sections i ++ bus_of b ∷ [] = first_buses_more sections i s within e ∙ ap (λ x. first_buses sections i ++ buses_of (section_of x ∷ [])) is in
-    let less : last_buses sections i ≡ bus_of b ∷ last_buses sections (i + 1) = last_buses_less sections i s within e ∙ ap (λ x. buses_of (section_of x ∷ map section_of (drop (i + 1) sections))) is in
+    let more : first_buses sections (i + 1) ≡ first_buses sections i ++ bus_section_of b ∷ [] = first_buses_more sections i s within e ∙ ap (λ x. first_buses sections i ++ buses_of (section_of x ∷ [])) is in
+    let less : last_buses sections i ≡ bus_section_of b ∷ last_buses sections (i + 1) = last_buses_less sections i s within e ∙ ap (λ x. buses_of (section_of x ∷ map section_of (drop (i + 1) sections))) is in
     rw (more, less, new) refl
 
 -- an AIR is passed

@@ -18,7 +18,7 @@ use Rattle.expressions.specs.declared.base_expression.SymbolicExpression.{Symbol
 use Rattle.lookup_model.specs.Outline.{bus_of, outline_of}
 use Rattle.lookup_model.specs.Records.{AreRecords, HasEqualLengths, IsRecordAt}
 use Rattle.lookup_model.specs.declared.types.Lookup.{Lookup}
-use Rattle.language_meaning.specs.Lookups.{Column, SentPart, column_of, part_of}
+use Rattle.language_meaning.specs.Lookups.{Column, SentPart, column_of, sent_part_of}
 use Rattle.language_meaning.specs.Scopes.{bytes_in}
 use Rattle.language_meaning.specs.declared.air.NamedLookup.{NamedLookup}
 use Rattle.language_meaning.specs.declared.air.NamedPart.{NamedPart}
@@ -54,14 +54,14 @@ module _ {F : Type 0} (element : ℕ → F) (text : List ℕ) where
   -- a lookup of these fields is that of a column
   pub outline_made : (n : ℕ) (named : NamedLookup) (l : Lookup F) (tuples counts : List NamedPart)
       → bus_of l.kind ≡ option_map (λ s. bytes_in s text) named.bus
-      → tuples ≡ named.parts.items → map (λ tuple. map tree_of tuple.items) l.elements.items ≡ map (λ p. map (tree_in element) p.message.tuple) (map part_of tuples)
-      → counts ≡ named.parts.items → map tree_of l.multiplicities.items ≡ map (λ p. tree_in element p.message.count) (map part_of counts)
+      → tuples ≡ named.parts.items → map (λ tuple. map tree_of tuple.items) l.elements.items ≡ map (λ p. map (tree_in element) p.message.tuple) (map sent_part_of tuples)
+      → counts ≡ named.parts.items → map tree_of l.multiplicities.items ≡ map (λ p. tree_in element p.message.count) (map sent_part_of counts)
       → l.count_weight ≡ weight_in (column_of named) → l.column ≡ n
-      → option_map (λ fs. map tree_of fs.items) l.flags ≡ flags_in element named.exclusive (map part_of named.parts.items)
+      → option_map (λ fs. map tree_of fs.items) l.flags ≡ flags_in element named.exclusive (map sent_part_of named.parts.items)
       → outline_of l ≡ outline_in element text n (column_of named)
   outline_made n named l tuples counts bus tuples_are elements counts_are multiplicities weight column flags =
-      let elements_are = elements ∙ ap (λ (ps : List NamedPart). map (λ (p : SentPart). map (tree_in element) p.message.tuple) (map part_of ps)) tuples_are in
-      let multiplicities_are = multiplicities ∙ ap (λ (ps : List NamedPart). map (λ (p : SentPart). tree_in element p.message.count) (map part_of ps)) counts_are in
+      let elements_are = elements ∙ ap (λ (ps : List NamedPart). map (λ (p : SentPart). map (tree_in element) p.message.tuple) (map sent_part_of ps)) tuples_are in
+      let multiplicities_are = multiplicities ∙ ap (λ (ps : List NamedPart). map (λ (p : SentPart). tree_in element p.message.count) (map sent_part_of ps)) counts_are in
       λ k. record {
         bus = bus k;
         elements = elements_are k;

@@ -4,7 +4,7 @@ use Rattle.language_meaning.specs.declared.name_fault.NameRefusal.{NameRefusal}
 use Rattle.language_meaning.specs.Faults.{◌>>=◌}
 use Rattle.language_meaning.specs.Lookups.{Column, Said, SentPart}
 use Rattle.language_meaning.specs.Room.{InRoom}
-use Rattle.language_meaning.specs.Scopes.{Names}
+use Rattle.language_meaning.specs.Scopes.{NamesInScope}
 use Rattle.language_meaning.specs.Values.{Meant}
 
 -- messages before those that are to come
@@ -16,5 +16,5 @@ abbrev pub with_said : List Column → List ℕ → Result Said NameRefusal → 
 with_said columns values read = read >>= λ s. Ok (record { columns = columns ++ s.columns; public_values = values ++ s.public_values; room = s.room })
 
 -- names with these definitions
-abbrev pub names_with : Names → List (List ℕ × Meant) → Names
+abbrev pub names_with : NamesInScope → List (List ℕ × Meant) → NamesInScope
 names_with names ds = record { text = names.text; columns = names.columns; preprocessed = names.preprocessed; defined = ds }

@@ -5,7 +5,7 @@ use Rattle.lookup_text.specs.Batches.{Bus, Section, bus, air}
 use Rattle.lookup_text.specs.declared.token.Span.{Span}
 use Rattle.language_meaning.specs.declared.name_fault.NameRefusal.{NameRefusal}
 use Rattle.language_meaning.specs.declared.name_fault.NameWhy.TheVariants.{UndeclaredBus, TupleWidth, RepeatedBus}
-use Rattle.language_meaning.specs.Faults.{refused}
+use Rattle.language_meaning.specs.Faults.{refusal_of_name}
 use Rattle.language_meaning.specs.Scopes.{bytes_in}
 
 -- the buses among the sections of a text
@@ -25,8 +25,8 @@ declares_any bs = nat_lt 0 (length bs)
 
 -- a tuple has as many values as are declared, and a bus is declared where any is
 abbrev pub width_checked : Span → List Bus → ℕ → Option ℕ → Result (Unit {0}) NameRefusal
-width_checked name bs width (Some declared) = if declared == width then Ok tt else refused TupleWidth name.start
-width_checked name bs width None = if declares_any bs then refused UndeclaredBus name.start else Ok tt
+width_checked name bs width (Some declared) = if declared == width then Ok tt else refusal_of_name TupleWidth name.start
+width_checked name bs width None = if declares_any bs then refusal_of_name UndeclaredBus name.start else Ok tt
 
 -- a bus takes tuples of so many values; one of a lookup's own takes all
 unfoldable pub bus_checked : List ℕ → List Bus → Option Span → ℕ → Result (Unit {0}) NameRefusal
@@ -36,7 +36,7 @@ bus_checked text bs (Some name) width = width_checked name bs width (declared_wi
 -- no bus is declared twice: none of these, and none before them
 abbrev pub distinct_after : List ℕ → List Bus → List Bus → Result (Unit {0}) NameRefusal
 distinct_after text before [] = Ok tt
-distinct_after text before (b ∷ bs) = if is_some (declared_width text (bytes_in b.name text) before) then refused RepeatedBus b.name.start else distinct_after text (before ++ b ∷ []) bs
+distinct_after text before (b ∷ bs) = if is_some (declared_width text (bytes_in b.name text) before) then refusal_of_name RepeatedBus b.name.start else distinct_after text (before ++ b ∷ []) bs
 
 -- no bus of a text is declared twice
 abbrev pub distinct_buses : List ℕ → List Section → Result (Unit {0}) NameRefusal

@@ -12,20 +12,20 @@ abbrev pub ◌>>=◌ : {A B : Type 0} → Result A NameRefusal → (A → Result
 (Err e) >>= f = Err e
 
 -- a fault that a function returned is the refusal that there is, unless memory ran out
-abbrev pub Fails : {Y : Type 0} → NameFault → Result Y NameRefusal → Type 0
-Fails faults.Memory read = Unit {0}
-Fails (faults.Refused f) read = read ≡ Err f
+abbrev pub IsNameRefusalOrMemory : {Y : Type 0} → NameFault → Result Y NameRefusal → Type 0
+IsNameRefusalOrMemory faults.Memory read = Unit {0}
+IsNameRefusalOrMemory (faults.Refused f) read = read ≡ Err f
 
 -- what a function returned, as view shows it, is this, unless memory ran out
-abbrev pub Gives : {X Y : Type 0} → (X → Y) → Result X NameFault → Result Y NameRefusal → Type 0
-Gives view (Ok x) read = read ≡ Ok (view x)
-Gives view (Err e) read = Fails e read
+abbrev pub IsNameResultOrMemory : {X Y : Type 0} → (X → Y) → Result X NameFault → Result Y NameRefusal → Type 0
+IsNameResultOrMemory view (Ok x) read = read ≡ Ok (view x)
+IsNameResultOrMemory view (Err e) read = IsNameRefusalOrMemory e read
 
 -- a refusal at a place
-abbrev pub refused : {A : Type 0} → NameWhy → ℕ → Result A NameRefusal
-refused why at = Err (record { at = at; why = why })
+abbrev pub refusal_of_name : {A : Type 0} → NameWhy → ℕ → Result A NameRefusal
+refusal_of_name why at = Err (record { at = at; why = why })
 
 -- a value that has to be there
-abbrev pub or_refused : {A : Type 0} → NameWhy → ℕ → Option A → Result A NameRefusal
-or_refused why at None = refused why at
-or_refused why at (Some x) = Ok x
+abbrev pub value_or_name_refusal : {A : Type 0} → NameWhy → ℕ → Option A → Result A NameRefusal
+value_or_name_refusal why at None = refusal_of_name why at
+value_or_name_refusal why at (Some x) = Ok x

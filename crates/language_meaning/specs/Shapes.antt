@@ -14,7 +14,7 @@ use Rattle.language_meaning.specs.declared.table_fault.TableWhy.TheVariants.{NoC
 use Rattle.language_meaning.specs.declared.shapes.AirShape.{AirShape}
 use Rattle.language_meaning.specs.declared.shapes.Size.{Size as SizeOf}
 use Rattle.language_meaning.specs.Files.{File}
-use Rattle.language_meaning.specs.Tables.{◌>>=◌, fixed_in, fixed_table, names_in, one_of, refused, table_named, trace_in}
+use Rattle.language_meaning.specs.Tables.{◌>>=◌, fixed_in, fixed_table, names_in, one_of, refusal_of_table, table_named, trace_in}
 
 -- how many rows an item says that there are
 abbrev pub height_in : Item → Option ℕ
@@ -43,9 +43,9 @@ columns_in (items.together ps) = None
 columns_in (items.exclusive ps) = None
 
 -- what has to be there
-abbrev pub needed : {A : Type 0} → TableWhy → ℕ → Option A → Result A TableRefusal
-needed why at None = refused why at
-needed why at (Some x) = Ok x
+abbrev pub value_or_table_refusal : {A : Type 0} → TableWhy → ℕ → Option A → Result A TableRefusal
+value_or_table_refusal why at None = refusal_of_table why at
+value_or_table_refusal why at (Some x) = Ok x
 
 -- whether a name stands among others
 abbrev pub stands_in : List ℕ → List Span → Span → Bool
@@ -54,7 +54,7 @@ stands_in text names name = list_any (λ other. bytes_eq (bytes_in other text) (
 -- no name stands twice: none of these, and none before them
 abbrev pub distinct_names : List ℕ → List Span → List Span → Result (Unit {0}) TableRefusal
 distinct_names text before [] = Ok tt
-distinct_names text before (s ∷ ss) = if stands_in text before s then refused RepeatedColumn s.start else distinct_names text (before ++ s ∷ []) ss
+distinct_names text before (s ∷ ss) = if stands_in text before s then refusal_of_table RepeatedColumn s.start else distinct_names text (before ++ s ∷ []) ss
 
 -- the columns and the rows of a main trace
 abbrev pub Size : Type 0
@@ -65,8 +65,8 @@ unfoldable pub said_size : List ℕ → Air → Result Size TableRefusal
 said_size text a = do
   columns ← one_of columns_in RepeatedColumns None a.items
   height ← one_of height_in RepeatedHeight None a.items
-  names ← needed NoColumns a.name.start columns
-  rows ← needed NoHeight a.name.start height
+  names ← value_or_table_refusal NoColumns a.name.start columns
+  rows ← value_or_table_refusal NoHeight a.name.start height
   distinct ← distinct_names text [] names
   Ok (map (λ s. bytes_in s text) names, rows)
 
@@ -75,12 +75,12 @@ abbrev pub size_in : SizeOf → Size
 size_in s = (names_in s.columns.items, s.rows)
 
 -- those of a table
-abbrev pub size_of : Numbers → Size
-size_of t = (t.0, length t.1 / length t.0)
+abbrev pub size_of_table : Numbers → Size
+size_of_table t = (t.0, length t.1 / length t.0)
 
 -- those of the trace that is named, or else those that items say
 abbrev pub main_size : List ℕ → List File → ℕ → Air → Option Span → Result Size TableRefusal
-main_size text files modulus a (Some s) = table_named text files modulus s >>= λ t. Ok (size_of t)
+main_size text files modulus a (Some s) = table_named text files modulus s >>= λ t. Ok (size_of_table t)
 main_size text files modulus a None = said_size text a
 
 -- the names of the columns of a table, none where there is no table

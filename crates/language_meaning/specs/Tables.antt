@@ -24,22 +24,22 @@ abbrev pub ◌>>=◌ : {A B : Type 0} → Result A TableRefusal → (A → Resul
 (Err e) >>= f = Err e
 
 -- a fault that a function returned is the refusal that there is, unless memory ran out
-abbrev pub Fails : {Y : Type 0} → TableFault → Result Y TableRefusal → Type 0
-Fails faults.Memory read = Unit {0}
-Fails (faults.Refused f) read = read ≡ Err f
+abbrev pub IsTableRefusalOrMemory : {Y : Type 0} → TableFault → Result Y TableRefusal → Type 0
+IsTableRefusalOrMemory faults.Memory read = Unit {0}
+IsTableRefusalOrMemory (faults.Refused f) read = read ≡ Err f
 
 -- what a function returned, as view shows it, is this, unless memory ran out
-abbrev pub Gives : {X Y : Type 0} → (X → Y) → Result X TableFault → Result Y TableRefusal → Type 0
-Gives view (Ok x) read = read ≡ Ok (view x)
-Gives view (Err e) read = Fails e read
+abbrev pub IsTableResultOrMemory : {X Y : Type 0} → (X → Y) → Result X TableFault → Result Y TableRefusal → Type 0
+IsTableResultOrMemory view (Ok x) read = read ≡ Ok (view x)
+IsTableResultOrMemory view (Err e) read = IsTableRefusalOrMemory e read
 
 -- names, without where they lie in memory
 abbrev pub names_in : List (Vec ℕ Global) → List (List ℕ)
 names_in names = map (λ name. name.items) names
 
 -- a refusal at a place of the text of the batch
-abbrev pub refused : {A : Type 0} → TableWhy → ℕ → Result A TableRefusal
-refused why at = Err (record { file = None; at = at; why = why })
+abbrev pub refusal_of_table : {A : Type 0} → TableWhy → ℕ → Result A TableRefusal
+refusal_of_table why at = Err (record { file = None; at = at; why = why })
 
 -- the file of a trace that an item names
 abbrev pub trace_in : Item → Option Span
@@ -71,7 +71,7 @@ fixed_in (items.exclusive ps) = None
 abbrev pub one_more : {A : Type 0} → TableWhy → ℕ → Option A → Option A → Result (Option A) TableRefusal
 one_more why at found None = Ok found
 one_more why at None (Some x) = Ok (Some x)
-one_more why at (Some before) (Some x) = refused why at
+one_more why at (Some before) (Some x) = refusal_of_table why at
 
 -- what one item has, if one has it, after what was found before them
 abbrev pub one_of : {A : Type 0} → (Item → Option A) → TableWhy → Option A → List Placed → Result (Option A) TableRefusal
@@ -85,7 +85,7 @@ of_file s (Err f) = Err (record { file = Some s; at = f.at; why = Text f.why })
 
 -- the table in a file that can be read
 abbrev pub table_of_content : ℕ → Span → Option (List ℕ) → Result Numbers TableRefusal
-table_of_content modulus s None = refused Unreadable s.start
+table_of_content modulus s None = refusal_of_table Unreadable s.start
 table_of_content modulus s (Some content) = of_file s (table_at modulus content)
 
 -- the table in the file of a name
@@ -94,7 +94,7 @@ table_named text files modulus s = table_of_content modulus s (content_of (bytes
 
 -- a file that has to be named
 abbrev pub named_file : ℕ → Option Span → Result Span TableRefusal
-named_file at None = refused NoTrace at
+named_file at None = refusal_of_table NoTrace at
 named_file at (Some s) = Ok s
 
 -- the table in a file, if one is named

@@ -36,18 +36,18 @@ powers zero m = m
 powers (suc n) m = product (powers n m) m
 
 -- how many nodes a value has
-abbrev pub size_of : Meant → ℕ
-size_of (main offset column) = 1
-size_of (preprocessed offset column) = 1
-size_of (public index) = 1
-size_of first_row = 1
-size_of last_row = 1
-size_of transition = 1
-size_of (number n) = 1
-size_of (negative m) = size_of m + 1
-size_of (sum m n) = size_of m + size_of n + 1
-size_of (difference m n) = size_of m + size_of n + 1
-size_of (product m n) = size_of m + size_of n + 1
+abbrev pub node_count_of : Meant → ℕ
+node_count_of (main offset column) = 1
+node_count_of (preprocessed offset column) = 1
+node_count_of (public index) = 1
+node_count_of first_row = 1
+node_count_of last_row = 1
+node_count_of transition = 1
+node_count_of (number n) = 1
+node_count_of (negative m) = node_count_of m + 1
+node_count_of (sum m n) = node_count_of m + node_count_of n + 1
+node_count_of (difference m n) = node_count_of m + node_count_of n + 1
+node_count_of (product m n) = node_count_of m + node_count_of n + 1
 
 -- how many layers a value has: one for each operator or sign over what is deepest
 abbrev pub layers_of : Meant → ℕ

@@ -2,10 +2,10 @@
 ghost use Rattle.std.specs.Prelude.{◌≡◌, IfOk, map, option_map};
 ghost use Rattle.lookup_text.specs.Batches.{section_of};
 ghost use Rattle.lookup_text.specs.Formulas.{formula_of};
-ghost use Rattle.lookup_text.specs.Items.{part_of as said_part, placed_of};
+ghost use Rattle.lookup_text.specs.Items.{group_part_of as said_part, placed_of};
 ghost use Rattle.lookup_text.specs.Messages.{message_of as said_by};
-ghost use Rattle.language_meaning.specs.Faults.{Gives};
-ghost use Rattle.language_meaning.specs.Lookups.{addition, addition_of, bus_kept, column_alone, column_of, column_together, defined_by, flag_meant, message_on, new_name, part_of, part_on, parts_on, said_by_items, said_of};
+ghost use Rattle.language_meaning.specs.Faults.{IsNameResultOrMemory};
+ghost use Rattle.language_meaning.specs.Lookups.{addition, addition_of, bus_kept, column_alone, column_of, column_together, defined_by, flag_meant, message_on, new_name, sent_part_of, part_on, parts_on, said_by_items, said_of};
 ghost use Rattle.language_meaning.specs.Messages.{sent_of};
 ghost use Rattle.language_meaning.specs.Room.{in_room};
 ghost use Rattle.language_meaning.specs.Scopes.{bytes_in, defined_of, names_for, names_of};
@@ -80,7 +80,7 @@ pub fn lookups_of(
     preprocessed: &[Vec<u8>],
     room: usize,
 ) -> Result<NamedAir, NameFault>
-    ensures { Gives said_of result (said_by_items (map section_of batch.now.sections.items)
+    ensures { IsNameResultOrMemory said_of result (said_by_items (map section_of batch.now.sections.items)
         (names_for text.now columns.now preprocessed.now) 0
         (map placed_of air.now.items.items) room) }
 {
@@ -122,7 +122,7 @@ fn added_by(
     item: &PlacedItem,
     room: usize,
 ) -> Result<(Added, usize), NameFault>
-    ensures { Gives (in_room addition_of) result (addition (map section_of sections.now)
+    ensures { IsNameResultOrMemory (in_room addition_of) result (addition (map section_of sections.now)
         (names_of scope.now) publics (placed_of item.now) room) }
 {
     match &item.item {
@@ -163,7 +163,7 @@ fn defined_by(
     tree: &Tree,
     room: usize,
 ) -> Result<(Defined, usize), NameFault>
-    ensures { Gives (in_room defined_of) result
+    ensures { IsNameResultOrMemory (in_room defined_of) result
         (defined_by (names_of scope.now) name (formula_of tree.now) room) }
 {
     check_new(scope, name)?;
@@ -202,7 +202,7 @@ fn lookup_alone(
     message: &MessageText,
     room: usize,
 ) -> Result<(NamedLookup, usize), NameFault>
-    ensures { Gives (in_room column_of) result (column_alone (map section_of sections.now)
+    ensures { IsNameResultOrMemory (in_room column_of) result (column_alone (map section_of sections.now)
         (names_of scope.now) (said_by message.now) room) }
 {
     let (named, left) = message_on(alloc, scope, sections, message, room)?;
@@ -228,7 +228,7 @@ fn message_on(
     message: &MessageText,
     room: usize,
 ) -> Result<(NamedMessage, usize), NameFault>
-    ensures { Gives (in_room sent_of) result (message_on (map section_of sections.now)
+    ensures { IsNameResultOrMemory (in_room sent_of) result (message_on (map section_of sections.now)
         (names_of scope.now) (said_by message.now) room) }
 {
     check_bus(scope.text, sections, message.bus, message.tuple.len())?;
@@ -246,7 +246,7 @@ fn group_of(
     parts: &[PartText],
     room: usize,
 ) -> Result<(NamedLookup, usize), NameFault>
-    ensures { Gives (in_room column_of) result (column_together (map section_of sections.now)
+    ensures { IsNameResultOrMemory (in_room column_of) result (column_together (map section_of sections.now)
         (names_of scope.now) at exclusive (map said_part parts.now) room) }
 {
     let Some(first) = parts.first() else {
@@ -272,7 +272,7 @@ fn parts_on(
     parts: &[PartText],
     room: usize,
 ) -> Result<(Vec<NamedPart>, usize), NameFault>
-    ensures { Gives (in_room (λ v. map part_of v.items)) result
+    ensures { IsNameResultOrMemory (in_room (λ v. map sent_part_of v.items)) result
         (parts_on (map section_of sections.now) (names_of scope.now) bus
         (map said_part parts.now) room) }
 {
@@ -296,7 +296,7 @@ fn part_on(
     part: &PartText,
     room: usize,
 ) -> Result<(NamedPart, usize), NameFault>
-    ensures { Gives (in_room part_of) result (part_on (map section_of sections.now)
+    ensures { IsNameResultOrMemory (in_room sent_part_of) result (part_on (map section_of sections.now)
         (names_of scope.now) bus (said_part part.now) room) }
 {
     let (flag, left) = flag_value(alloc, scope, &part.flag, room)?;
@@ -312,7 +312,7 @@ fn flag_value(
     flag: &Option<Tree>,
     room: usize,
 ) -> Result<(Option<Value>, usize), NameFault>
-    ensures { Gives (in_room (option_map meant_of)) result
+    ensures { IsNameResultOrMemory (in_room (option_map meant_of)) result
         (flag_meant (names_of scope.now) (option_map formula_of flag.now) room) }
 {
     match flag {

@@ -4,7 +4,7 @@ ghost use Rattle.expressions.specs.Tree.{tree_of};
 ghost use Rattle.field.specs.Ring.{of_nat};
 ghost use Rattle.lookup_model.specs.Outline.{bus_of, outline_of};
 ghost use Rattle.lookup_model.specs.Records.{AreRecords, IsRecordAt};
-ghost use Rattle.language_meaning.specs.Lookups.{column_of, part_of};
+ghost use Rattle.language_meaning.specs.Lookups.{column_of, sent_part_of};
 ghost use Rattle.language_meaning.specs.Scopes.{bytes_in};
 ghost use Rattle.language_meaning.specs.Values.{meant_of};
 ghost use Rattle.language_meaning.specs.Columns.{IsColumnRefusal, IsFirstColumnRefusal, IsMade, IsNameRefusal, IsNamed, flag_or_one, flags_in, greatest_weight, outline_in, outlines_in, sum_of_weights, weight_in};
@@ -119,7 +119,7 @@ fn weight_of(named: &NamedLookup) -> Option<u64>
 
 /// The greatest weight of some messages, 0 where there are none.
 fn greatest_weight(parts: &[NamedPart]) -> u64
-    ensures { result ≡ greatest_weight (map part_of parts.now) }
+    ensures { result ≡ greatest_weight (map sent_part_of parts.now) }
 {
     let mut most = 0;
     for part in parts {
@@ -130,8 +130,8 @@ fn greatest_weight(parts: &[NamedPart]) -> u64
 
 /// The sum of the weights of some messages, if it fits.
 fn sum_of_weights(parts: &[NamedPart]) -> Option<u64>
-    ensures { MatchOption result (2 ^ 64 ≤ sum_of_weights (map part_of parts.now))
-        (λ sum. sum ≡ sum_of_weights (map part_of parts.now)) }
+    ensures { MatchOption result (2 ^ 64 ≤ sum_of_weights (map sent_part_of parts.now))
+        (λ sum. sum ≡ sum_of_weights (map sent_part_of parts.now)) }
 {
     let mut sum = 0u64;
     for part in parts {
@@ -147,7 +147,7 @@ fn tuples_over<F: PrimeCharacteristicRing>(
 ) -> Result<Vec<Vec<SymbolicExpression<F>>>, AllocError>
     ensures { IfOk result (λ v. map (λ tuple. map tree_of tuple.items) v.items
         ≡ map (λ p. map (tree_in (of_nat F.ring)) p.message.tuple)
-        (map part_of parts.now)) }
+        (map sent_part_of parts.now)) }
 {
     let mut tuples = Vec::new(alloc);
     for part in parts {
@@ -162,7 +162,7 @@ fn counts_over<F: PrimeCharacteristicRing>(
     parts: &[NamedPart],
 ) -> Result<Vec<SymbolicExpression<F>>, AllocError>
     ensures { IfOk result (λ v. map tree_of v.items
-        ≡ map (λ p. tree_in (of_nat F.ring) p.message.count) (map part_of parts.now)) }
+        ≡ map (λ p. tree_in (of_nat F.ring) p.message.count) (map sent_part_of parts.now)) }
 {
     let mut counts = Vec::new(alloc);
     for part in parts {
@@ -178,7 +178,7 @@ fn flags_over<F: PrimeCharacteristicRing>(
 ) -> Result<Vec<SymbolicExpression<F>>, AllocError>
     ensures { IfOk result (λ v. map tree_of v.items
         ≡ map (λ p. tree_in (of_nat F.ring) (flag_or_one p.flag))
-        (map part_of parts.now)) }
+        (map sent_part_of parts.now)) }
 {
     let mut flags = Vec::new(alloc);
     for part in parts {

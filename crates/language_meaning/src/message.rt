@@ -2,8 +2,8 @@
 ghost use Rattle.std.specs.Prelude.{◌≡◌, IfOk, map};
 ghost use Rattle.lookup_text.specs.Formulas.{formula_of};
 ghost use Rattle.lookup_text.specs.Messages.{message_of as said_by};
-ghost use Rattle.language_meaning.specs.Faults.{Gives};
-ghost use Rattle.language_meaning.specs.Messages.{all_meant, constant_of, count_of, sent, sent_of, signed, times_of, weight_of};
+ghost use Rattle.language_meaning.specs.Faults.{IsNameResultOrMemory};
+ghost use Rattle.language_meaning.specs.Messages.{all_meant, constant_of, count_of, meant_message, sent_of, signed_count, times_of, weight_of_message};
 ghost use Rattle.language_meaning.specs.Room.{in_room};
 ghost use Rattle.language_meaning.specs.Scopes.{names_of};
 ghost use Rattle.language_meaning.specs.Values.{meant_of};
@@ -32,14 +32,14 @@ pub struct NamedMessage {
 ///
 /// Refuses the first fault of `value_of`, and then a message whose weight is not known: it is not
 /// provided, no `at most` is there, and the count is no number.
-#[tactic(auto, unfolding(crate::specs::Messages::sent))]
+#[tactic(auto, unfolding(crate::specs::Messages::meant_message))]
 pub fn named_message(
     alloc: Global,
     scope: &Scope<'_>,
     message: &MessageText,
     room: usize,
 ) -> Result<(NamedMessage, usize), NameFault>
-    ensures { Gives (in_room sent_of) result (sent (names_of scope.now) (said_by message.now) room) }
+    ensures { IsNameResultOrMemory (in_room sent_of) result (meant_message (names_of scope.now) (said_by message.now) room) }
 {
     let (tuple, room) = values_of(alloc, scope, &message.tuple, room)?;
     let (count, room) = count_of(alloc, scope, message, room)?;
@@ -60,7 +60,7 @@ fn values_of(
     trees: &[Tree],
     room: usize,
 ) -> Result<(Vec<Value>, usize), NameFault>
-    ensures { Gives (in_room (λ v. map meant_of v.items)) result
+    ensures { IsNameResultOrMemory (in_room (λ v. map meant_of v.items)) result
         (all_meant (names_of scope.now) (map formula_of trees.now) room) }
 {
     let mut values = Vec::new(alloc);
@@ -81,7 +81,7 @@ fn count_of(
     message: &MessageText,
     room: usize,
 ) -> Result<(Value, usize), NameFault>
-    ensures { Gives (in_room meant_of) result
+    ensures { IsNameResultOrMemory (in_room meant_of) result
         (count_of (names_of scope.now) (said_by message.now) room) }
 {
     let (times, left) = times_of(alloc, scope, message, room)?;
@@ -96,7 +96,7 @@ fn times_of(
     message: &MessageText,
     room: usize,
 ) -> Result<(Value, usize), NameFault>
-    ensures { Gives (in_room meant_of) result
+    ensures { IsNameResultOrMemory (in_room meant_of) result
         (times_of (names_of scope.now) (said_by message.now).times room) }
 {
     match &message.times {
@@ -107,7 +107,7 @@ fn times_of(
 
 /// A count with the sign of a verb.
 fn with_sign(alloc: Global, verb: Verb, times: Value) -> Result<Value, AllocError>
-    ensures { IfOk result (λ v. meant_of v ≡ signed verb (meant_of times)) }
+    ensures { IfOk result (λ v. meant_of v ≡ signed_count verb (meant_of times)) }
 {
     match verb {
         Verb::Query | Verb::Send => Ok(times),
@@ -116,9 +116,9 @@ fn with_sign(alloc: Global, verb: Verb, times: Value) -> Result<Value, AllocErro
 }
 
 /// The most that a row adds to a count by a message.
-#[tactic(auto, unfolding(crate::specs::Messages::weight_of))]
+#[tactic(auto, unfolding(crate::specs::Messages::weight_of_message))]
 fn weight_of(message: &MessageText) -> Result<u64, NameRefusal>
-    ensures { result ≡ weight_of (said_by message.now) }
+    ensures { result ≡ weight_of_message (said_by message.now) }
 {
     match message.verb {
         Verb::Provide => Ok(0),

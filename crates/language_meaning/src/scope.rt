@@ -2,9 +2,9 @@
 ghost use Rattle.std.specs.Prelude.{◌≡◌, ◌-◌, map, option_map, position};
 ghost use Rattle.std.specs.Str.{bytes_eq};
 ghost use Rattle.lookup_text.specs.Formulas.{formula_of};
-ghost use Rattle.language_meaning.specs.Faults.{Gives};
+ghost use Rattle.language_meaning.specs.Faults.{IsNameResultOrMemory};
 ghost use Rattle.language_meaning.specs.Room.{in_room};
-ghost use Rattle.language_meaning.specs.Scopes.{bytes_in, cell_of, defined_of, definition, fixed_name, front_of, meaning, meaning_in, named_in, names_of, next_named, place_of, placed, selector_of};
+ghost use Rattle.language_meaning.specs.Scopes.{bytes_in, cell_of, defined_of, definition, fixed_name, front_of, meaning, meaning_in, named_in, names_of, next_named, column_number_of, value_in_room, selector_of};
 ghost use Rattle.language_meaning.specs.Values.{meant_of, powers};
 
 use crate::name_fault::{NameFault, NameWhy, refused};
@@ -52,7 +52,7 @@ pub fn value_of(
     tree: &Tree,
     room: usize,
 ) -> Result<(Value, usize), NameFault>
-    ensures { Gives (in_room meant_of) result
+    ensures { IsNameResultOrMemory (in_room meant_of) result
         (meaning (names_of scope.now) (formula_of tree.now) room) }
 {
     let (value, left) = value_in(alloc, scope, tree, room)?;
@@ -70,7 +70,7 @@ fn value_in(
     tree: &Tree,
     room: usize,
 ) -> Result<(Value, usize), NameFault>
-    ensures { Gives (in_room meant_of) result
+    ensures { IsNameResultOrMemory (in_room meant_of) result
         (meaning_in (names_of scope.now) (formula_of tree.now) room) }
 {
     let inner = room.saturating_sub(1);
@@ -118,7 +118,7 @@ fn front_of(tree: &Tree) -> usize
 
 /// A value with the room that it leaves, if there is room for it.
 fn within(value: Value, at: usize, room: usize) -> Result<(Value, usize), NameFault>
-    ensures { Gives (in_room meant_of) result (placed at room (meant_of value)) }
+    ensures { IsNameResultOrMemory (in_room meant_of) result (value_in_room at room (meant_of value)) }
 {
     match room_after(&value, room) {
         Some(left) => Ok((value, left)),
@@ -133,7 +133,7 @@ fn copy_within(
     at: usize,
     room: usize,
 ) -> Result<(Value, usize), NameFault>
-    ensures { Gives (in_room meant_of) result (placed at room (meant_of value.now)) }
+    ensures { IsNameResultOrMemory (in_room meant_of) result (value_in_room at room (meant_of value.now)) }
 {
     match room_after(value, room) {
         Some(left) => Ok((copy_of(alloc, value)?, left)),
@@ -149,8 +149,8 @@ fn power_within(
     at: usize,
     room: usize,
 ) -> Result<(Value, usize), NameFault>
-    ensures { Gives (in_room meant_of) result
-        (placed at room (powers (exponent - 1) (meant_of base.now))) }
+    ensures { IsNameResultOrMemory (in_room meant_of) result
+        (value_in_room at room (powers (exponent - 1) (meant_of base.now))) }
 {
     match room_after_power(base, exponent, room) {
         Some(left) => Ok((power_of(alloc, base, exponent)?, left)),
@@ -159,14 +159,14 @@ fn power_within(
 }
 
 /// The value that a name stands for, and how much room it leaves.
-#[tactic(auto, unfolding(crate::specs::Scopes::named))]
+#[tactic(auto, unfolding(crate::specs::Scopes::meaning_of_name))]
 fn named_value(
     alloc: Global,
     scope: &Scope<'_>,
     span: Span,
     room: usize,
 ) -> Result<(Value, usize), NameFault>
-    ensures { Gives (in_room meant_of) result (named_in (names_of scope.now) span room) }
+    ensures { IsNameResultOrMemory (in_room meant_of) result (named_in (names_of scope.now) span room) }
 {
     let name = bytes_of(scope.text, span);
     if let Some(value) = defined_value(scope.defined, name) {
@@ -184,7 +184,7 @@ fn named_value(
 /// The cell of the next row that a name stands for.
 #[tactic(auto, unfolding(crate::specs::Scopes::next_named))]
 fn next_value(scope: &Scope<'_>, span: Span) -> Result<Value, NameFault>
-    ensures { Gives meant_of result (next_named (names_of scope.now) span) }
+    ensures { IsNameResultOrMemory meant_of result (next_named (names_of scope.now) span) }
 {
     match cell(scope, bytes_of(scope.text, span), 1) {
         Some(value) => Ok(value),
@@ -268,7 +268,7 @@ fn without_prefix(name: &[u8]) -> Option<&[u8]>
 
 /// The number of the first column with a name.
 fn place(columns: &[Vec<u8>], name: &[u8]) -> Option<usize>
-    ensures { result ≡ place_of name.now (map (λ column. column.items) columns.now) }
+    ensures { result ≡ column_number_of name.now (map (λ column. column.items) columns.now) }
 {
     first_place(columns, name)
 }

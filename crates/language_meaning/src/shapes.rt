@@ -6,7 +6,7 @@ ghost use Rattle.lookup_text.specs.Tables.{table_of};
 ghost use Rattle.language_meaning.specs.Scopes.{bytes_in};
 ghost use Rattle.language_meaning.specs.Files.{named_of};
 ghost use Rattle.language_meaning.specs.Shapes.{air_shape, all_shapes, column_names, columns_in, distinct_names, height_in, main_size, said_size, shape_of, size_in};
-ghost use Rattle.language_meaning.specs.Tables.{Gives, fixed_table, names_in, one_of};
+ghost use Rattle.language_meaning.specs.Tables.{IsTableResultOrMemory, fixed_table, names_in, one_of};
 
 use crate::files::NamedFile;
 use crate::scope::bytes_of;
@@ -47,7 +47,7 @@ pub fn read_shapes(
     files: &[NamedFile],
     modulus: u64,
 ) -> Result<Vec<AirShape>, TableFault>
-    ensures { Gives (λ v. map shape_of v.items) result (all_shapes text.now
+    ensures { IsTableResultOrMemory (λ v. map shape_of v.items) result (all_shapes text.now
         (map named_of files.now) modulus (map section_of batch.now.sections.items)) }
 {
     let mut shapes = Vec::new(alloc);
@@ -68,7 +68,7 @@ fn read_shape(
     files: &[NamedFile],
     modulus: u64,
 ) -> Result<AirShape, TableFault>
-    ensures { Gives shape_of result
+    ensures { IsTableResultOrMemory shape_of result
         (air_shape text.now (map named_of files.now) modulus (air_of air.now)) }
 {
     let trace = one_trace(&air.items)?;
@@ -90,7 +90,7 @@ fn read_shape(
 
 /// The columns and the rows of a table.
 fn size_of(table: Table) -> Size
-    ensures { size_in result ≡ Rattle.language_meaning.specs.Shapes.size_of (table_of table) }
+    ensures { size_in result ≡ Rattle.language_meaning.specs.Shapes.size_of_table (table_of table) }
 {
     let Table { names, cells } = table;
     let rows = if names.is_empty() {
@@ -107,7 +107,7 @@ fn size_of(table: Table) -> Size
 /// The columns and the rows that the items of an AIR say.
 #[tactic(auto, unfolding(crate::specs::Shapes::said_size))]
 fn said_size(alloc: Global, text: &[u8], air: &AirText) -> Result<Size, TableFault>
-    ensures { Gives size_in result (said_size text.now (air_of air.now)) }
+    ensures { IsTableResultOrMemory size_in result (said_size text.now (air_of air.now)) }
 {
     let columns = one_columns(&air.items)?;
     let height = one_height(&air.items)?;
@@ -124,7 +124,7 @@ fn said_size(alloc: Global, text: &[u8], air: &AirText) -> Result<Size, TableFau
 
 /// The columns that one item says, if one does.
 fn one_columns(items: &[PlacedItem]) -> Result<Option<&[Span]>, TableFault>
-    ensures { Gives (option_map (λ x. x.now)) result
+    ensures { IsTableResultOrMemory (option_map (λ x. x.now)) result
         (one_of columns_in TableWhy.RepeatedColumns None (map placed_of items.now)) }
 {
     let mut found = None;
@@ -138,7 +138,7 @@ fn one_columns(items: &[PlacedItem]) -> Result<Option<&[Span]>, TableFault>
 
 /// How many rows one item says that there are, if one does.
 fn one_height(items: &[PlacedItem]) -> Result<Option<u64>, TableFault>
-    ensures { Gives (λ x. x) result
+    ensures { IsTableResultOrMemory (λ x. x) result
         (one_of height_in TableWhy.RepeatedHeight None (map placed_of items.now)) }
 {
     let mut found = None;
@@ -152,7 +152,7 @@ fn one_height(items: &[PlacedItem]) -> Result<Option<u64>, TableFault>
 
 /// Whether no name stands twice.
 fn check_distinct(text: &[u8], names: &[Span]) -> Result<(), TableFault>
-    ensures { Gives (λ x. x) result (distinct_names text.now [] names.now) }
+    ensures { IsTableResultOrMemory (λ x. x) result (distinct_names text.now [] names.now) }
 {
     for index in 0..names.len() {
         if stands_in(text, &names[..index], names[index]) {

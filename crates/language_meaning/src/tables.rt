@@ -4,7 +4,7 @@ ghost use Rattle.lookup_text.specs.Batches.{air_of, section_of};
 ghost use Rattle.lookup_text.specs.Items.{item_of, placed_of};
 ghost use Rattle.lookup_text.specs.Tables.{table_of};
 ghost use Rattle.language_meaning.specs.Files.{named_of};
-ghost use Rattle.language_meaning.specs.Tables.{Gives, air_tables, all_tables, fixed_in, one_more, one_of, table_named, tables_of, trace_in};
+ghost use Rattle.language_meaning.specs.Tables.{IsTableResultOrMemory, air_tables, all_tables, fixed_in, one_more, one_of, table_named, tables_of, trace_in};
 
 use crate::files::{NamedFile, content_of};
 use crate::scope::bytes_of;
@@ -33,7 +33,7 @@ pub fn read_tables(
     files: &[NamedFile],
     modulus: u64,
 ) -> Result<Vec<AirTables>, TableFault>
-    ensures { Gives (λ v. map tables_of v.items) result (all_tables text.now
+    ensures { IsTableResultOrMemory (λ v. map tables_of v.items) result (all_tables text.now
         (map named_of files.now) modulus (map section_of batch.now.sections.items)) }
 {
     let mut tables = Vec::new(alloc);
@@ -54,7 +54,7 @@ fn read_air(
     files: &[NamedFile],
     modulus: u64,
 ) -> Result<AirTables, TableFault>
-    ensures { Gives tables_of result
+    ensures { IsTableResultOrMemory tables_of result
         (air_tables text.now (map named_of files.now) modulus (air_of air.now)) }
 {
     let Some(trace) = one_trace(&air.items)? else {
@@ -71,7 +71,7 @@ fn read_air(
 
 /// The file of the one trace that items name, if they name one.
 pub(crate) fn one_trace(items: &[PlacedItem]) -> Result<Option<Span>, TableFault>
-    ensures { Gives (λ f. f) result
+    ensures { IsTableResultOrMemory (λ f. f) result
         (one_of trace_in TableWhy.RepeatedTrace None (map placed_of items.now)) }
 {
     let mut found = None;
@@ -85,7 +85,7 @@ pub(crate) fn one_trace(items: &[PlacedItem]) -> Result<Option<Span>, TableFault
 
 /// The file of the one preprocessed trace that items name, if they name one.
 pub(crate) fn one_preprocessed(items: &[PlacedItem]) -> Result<Option<Span>, TableFault>
-    ensures { Gives (λ f. f) result
+    ensures { IsTableResultOrMemory (λ f. f) result
         (one_of fixed_in TableWhy.RepeatedPreprocessed None (map placed_of items.now)) }
 {
     let mut found = None;
@@ -104,7 +104,7 @@ pub(crate) fn first<T: Drop>(
     why: TableWhy,
     at: usize,
 ) -> Result<T, TableFault>
-    ensures { Gives Some result (one_more why at found (Some item)) }
+    ensures { IsTableResultOrMemory Some result (one_more why at found (Some item)) }
 {
     match found {
         None => Ok(item),
@@ -131,7 +131,7 @@ pub(crate) fn table_named(
     modulus: u64,
     file: Span,
 ) -> Result<Table, TableFault>
-    ensures { Gives table_of result (table_named text.now (map named_of files.now) modulus file) }
+    ensures { IsTableResultOrMemory table_of result (table_named text.now (map named_of files.now) modulus file) }
 {
     let Some(content) = content_of(files, bytes_of(text, file)) else {
         return Err(refused(TableWhy::Unreadable, file.start));

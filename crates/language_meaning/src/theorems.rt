@@ -2,14 +2,14 @@
 //! theorem.
 ghost use Rattle.std.specs.Prelude.{◌≡◌, ◌+◌, ◌≤◌, ℕ, Ok};
 ghost use Rattle.lookup_text.specs.Formulas.{Formula};
-ghost use Rattle.language_meaning.specs.Scopes.{Names, meaning};
-ghost use Rattle.language_meaning.specs.Values.{Meant, layers_of, size_of};
+ghost use Rattle.language_meaning.specs.Scopes.{NamesInScope, meaning};
+ghost use Rattle.language_meaning.specs.Values.{Meant, layers_of, node_count_of};
 
 /// What an expression means, and what it leaves of the room: its nodes and what is left are all of
 /// the room, without exception, and it has at most 1,024 layers.
 pub fn room_is_taken()
-    ensures nodes { (names : Names) (f : Formula) (room rest : ℕ) (m : Meant)
-        → meaning names f room ≡ Ok (m, rest) → size_of m + rest ≡ room }
-    ensures layers { (names : Names) (f : Formula) (room rest : ℕ) (m : Meant)
+    ensures nodes { (names : NamesInScope) (f : Formula) (room rest : ℕ) (m : Meant)
+        → meaning names f room ≡ Ok (m, rest) → node_count_of m + rest ≡ room }
+    ensures layers { (names : NamesInScope) (f : Formula) (room rest : ℕ) (m : Meant)
         → meaning names f room ≡ Ok (m, rest) → layers_of m ≤ 1024 }
 {}

@@ -1,6 +1,6 @@
 //! Values over columns by their numbers.
 ghost use Rattle.std.specs.Prelude.{◌≡◌, ◌-◌, ◌+◌, ◌<◌, ◌≤◌, ◌↔◌, IfOk, IsTrue, MatchOption};
-ghost use Rattle.language_meaning.specs.Values.{difference, layers_of, meant_of, powers, product, size_of, sum};
+ghost use Rattle.language_meaning.specs.Values.{difference, layers_of, meant_of, powers, product, node_count_of, sum};
 
 use std::alloc::{AllocError, Global};
 
@@ -98,8 +98,8 @@ pub(crate) fn power_of(alloc: Global, base: &Value, exponent: u64) -> Result<Val
 /// How much room a value leaves, of room for so many nodes; `None` where it has more nodes.
 #[tactic(auto, using(crate::proofs::ValueLaws::size_of_positive))]
 pub(crate) fn room_after(value: &Value, room: usize) -> Option<usize>
-    ensures { MatchOption result (room < size_of (meant_of value.now))
-        (λ left. left + size_of (meant_of value.now) ≡ room) }
+    ensures { MatchOption result (room < node_count_of (meant_of value.now))
+        (λ left. left + node_count_of (meant_of value.now) ≡ room) }
 {
     let inner = room.checked_sub(1)?;
     match value {
@@ -115,7 +115,7 @@ pub(crate) fn room_after(value: &Value, room: usize) -> Option<usize>
 #[tactic(auto, using(crate::proofs::ValueLaws::size_of_powers))]
 pub(crate) fn room_after_power(base: &Value, exponent: u64, room: usize) -> Option<usize>
     ensures { let power = powers (exponent - 1) (meant_of base.now) in
-        MatchOption result (room < size_of power) (λ left. left + size_of power ≡ room) }
+        MatchOption result (room < node_count_of power) (λ left. left + node_count_of power ≡ room) }
 {
     let size = room - room_after(base, room)?;
     let further = exponent.saturating_sub(1) as usize;

@@ -15,7 +15,7 @@ use Rattle.lookup.specs.Buses.{bus_names, on_bus}
 use Rattle.lookup_model.specs.Names.{is_named, same_name}
 use Rattle.lookup.specs.Cuts.{AreClosed, IsCut, part_items}
 use Rattle.lookup.specs.Fewest.{AnswersDegree, HasFewestColumns}
-use Rattle.lookup.specs.Packing.{AreFilled, IsAbove, IsFilling, IsPacking, additive, is_additive, joined, numbered_from, passing, Packs}
+use Rattle.lookup.specs.Packing.{AreFilled, IsAbove, IsFilling, IsPacking, additive_lookups, is_additive, joined_lookup, numbered_from, passing, Packs}
 use Rattle.lookup.specs.internal.TrialDegrees.{IsPlain}
 use Rattle.lookup.proofs.Columns.{unnumbered, unnumbered_all}
 use Rattle.lookup.proofs.FillLaws.{joined_more, with_next}
@@ -106,9 +106,9 @@ module _ {F : Type 0} where
       ∙ ap (λ t. outline_branch_degrees 0 o ++ t) (branches_joined os plain.1)
 
   -- so the degree of a part is that of all its branches
-  joined_degree : (part : Outline (SymbolicExpression F) × List (Outline (SymbolicExpression F))) → AllByRecursion IsPlain (part_items part) → outline_degree 0 (joined part) ≡ constraint_degree_of None (flat_map (outline_branch_degrees 0) (part_items part))
+  joined_degree : (part : Outline (SymbolicExpression F) × List (Outline (SymbolicExpression F))) → AllByRecursion IsPlain (part_items part) → outline_degree 0 (joined_lookup part) ≡ constraint_degree_of None (flat_map (outline_branch_degrees 0) (part_items part))
   joined_degree part plain =
-      ap (λ flags. constraint_degree_of (option_map (map (expression_degree 0)) flags) (outline_branch_degrees 0 (joined part))) (plain.0).no_flags
+      ap (λ flags. constraint_degree_of (option_map (map (expression_degree 0)) flags) (outline_branch_degrees 0 (joined_lookup part))) (plain.0).no_flags
       ∙ ap (constraint_degree_of None) (branches_joined (part_items part) plain)
 
   module _ (most : ℕ) where
@@ -127,7 +127,7 @@ module _ {F : Type 0} where
 
     -- what a split asks of its parts is that they fit
     split_fits : (split : List (Outline (SymbolicExpression F) × List (Outline (SymbolicExpression F)))) → AllByRecursion IsPlain (flat_map part_items split)
-        → AllByRecursion (λ part. (part.1 ≡ []) ⊎ (outline_degree 0 (joined part) ≤ most)) split → AllByRecursion (λ part. (part.1 ≡ []) ⊎ Fits (part_items part)) split
+        → AllByRecursion (λ part. (part.1 ≡ []) ⊎ (outline_degree 0 (joined_lookup part) ≤ most)) split → AllByRecursion (λ part. (part.1 ≡ []) ⊎ Fits (part_items part)) split
     split_fits [] plain within = tt
     split_fits (p ∷ ps) plain within = (
       grind (arith, within.0, joined_degree p (all_front IsPlain (part_items p) (flat_map part_items ps) plain)),
@@ -136,25 +136,25 @@ module _ {F : Type 0} where
 
     -- a greedy filling of a bus has no more columns than any split of its lookups has parts
     pub fewest_of_bus : (members : List (Outline (SymbolicExpression F))) (cut split : List (Outline (SymbolicExpression F) × List (Outline (SymbolicExpression F)))) → AllByRecursion IsPlain members → IsFilling AnswersDegree most cut members
-        → IsCut split members → AllByRecursion (λ part. (part.1 ≡ []) ⊎ (outline_degree 0 (joined part) ≤ most)) split → length cut ≤ length split
+        → IsCut split members → AllByRecursion (λ part. (part.1 ≡ []) ⊎ (outline_degree 0 (joined_lookup part) ≤ most)) split → length cut ≤ length split
     fewest_of_bus members cut split plain filling is_cut within =
         fewest_parts Fits (degree_hereditary (outline_branch_degrees 0) most) members cut split filling.0
         (full cut (subst (AllByRecursion IsPlain) (sym filling.0) plain) filling.1.1) (is_cut, split_fits split (subst (AllByRecursion IsPlain) (sym is_cut) plain) within)
 
 module _ {E : Type 0} where
   -- numbers of columns do not matter to what is counted
-  counted : (name : List ℕ) (os : List (Outline E)) → length (on_bus name (additive (map unnumbered os))) ≡ length (on_bus name (additive os))
+  counted : (name : List ℕ) (os : List (Outline E)) → length (on_bus name (additive_lookups (map unnumbered os))) ≡ length (on_bus name (additive_lookups os))
   counted name os =
       let named = λ (o : Outline E). is_named name o.bus in
-      ap length (ap (filter named) (filter_images unnumbered is_additive is_additive (λ o. refl) os) ∙ filter_images unnumbered named named (λ o. refl) (additive os))
-      ∙ length-map (on_bus name (additive os)) unnumbered
+      ap length (ap (filter named) (filter_images unnumbered is_additive is_additive (λ o. refl) os) ∙ filter_images unnumbered named named (λ o. refl) (additive_lookups os))
+      ∙ length-map (on_bus name (additive_lookups os)) unnumbered
 
-  on_bus-numbered : (name : List ℕ) (n : ℕ) (os : List (Outline E)) → length (on_bus name (additive (numbered_from n os))) ≡ length (on_bus name (additive os))
+  on_bus-numbered : (name : List ℕ) (n : ℕ) (os : List (Outline E)) → length (on_bus name (additive_lookups (numbered_from n os))) ≡ length (on_bus name (additive_lookups os))
   on_bus-numbered name n os =
-      sym (counted name (numbered_from n os)) ∙ ap (λ t. length (on_bus name (additive t))) (unnumbered_all n os) ∙ counted name os
+      sym (counted name (numbered_from n os)) ∙ ap (λ t. length (on_bus name (additive_lookups t))) (unnumbered_all n os) ∙ counted name os
 
   -- what passes through is not counted
-  pub none_additive : (os : List (Outline E)) → additive (passing os) ≡ []
+  pub none_additive : (os : List (Outline E)) → additive_lookups (passing os) ≡ []
   none_additive [] = refl
   none_additive (o ∷ os) = grind (arith, none_additive os)
 
@@ -163,16 +163,16 @@ module _ {E : Type 0} where
     pub joins : is_additive o ≡ true
     pub named : is_named name o.bus ≡ true
 
-  pub members_on : (name : List ℕ) (os : List (Outline E)) → AllByRecursion (IsOn name) (on_bus name (additive os))
+  pub members_on : (name : List ℕ) (os : List (Outline E)) → AllByRecursion (IsOn name) (on_bus name (additive_lookups os))
   members_on name os =
-      all_with (λ o. is_additive o ≡ true) (λ o. is_named name o.bus ≡ true) (IsOn name) (λ o joins named. record { joins = joins; named = named }) (on_bus name (additive os)) (all_kept (λ o. is_additive o ≡ true) (λ o. is_named name o.bus) (additive os) (filter_passes is_additive os)) (filter_passes (λ o. is_named name o.bus) (additive os))
+      all_with (λ o. is_additive o ≡ true) (λ o. is_named name o.bus ≡ true) (IsOn name) (λ o joins named. record { joins = joins; named = named }) (on_bus name (additive_lookups os)) (all_kept (λ o. is_additive o ≡ true) (λ o. is_named name o.bus) (additive_lookups os) (filter_passes is_additive os)) (filter_passes (λ o. is_named name o.bus) (additive_lookups os))
 
   -- the columns of a bus are those that its parts make, and on another bus there are none of them
-  own_columns : (name : List ℕ) (cut : List (Outline E × List (Outline E))) → AllByRecursion (IsOn name) (flat_map part_items cut) → on_bus name (additive (map joined cut)) ≡ map joined cut
+  own_columns : (name : List ℕ) (cut : List (Outline E × List (Outline E))) → AllByRecursion (IsOn name) (flat_map part_items cut) → on_bus name (additive_lookups (map joined_lookup cut)) ≡ map joined_lookup cut
   own_columns name [] on = refl
   own_columns name (p ∷ ps) on = grind (arith, own_columns name ps (all_back (IsOn name) (part_items p) (flat_map part_items ps) on), (on.0).joins, (on.0).named)
 
-  other_columns : (name other : List ℕ) → same_name name other ≡ false → (cut : List (Outline E × List (Outline E))) → AllByRecursion (IsOn other) (flat_map part_items cut) → on_bus name (additive (map joined cut)) ≡ []
+  other_columns : (name other : List ℕ) → same_name name other ≡ false → (cut : List (Outline E × List (Outline E))) → AllByRecursion (IsOn other) (flat_map part_items cut) → on_bus name (additive_lookups (map joined_lookup cut)) ≡ []
   other_columns name other apart [] on = refl
   other_columns name other apart (p ∷ ps) on = grind (arith, other_columns name other apart ps (all_back (IsOn other) (part_items p) (flat_map part_items ps) on), (on.0).joins, not_named (p.0).bus (on.0).named)
     where
@@ -184,46 +184,46 @@ name_cases : (name other : List ℕ) → (name ≡ other) ⊎ (same_name name ot
 name_cases name other = grind (arith, same_name-Decides name other)
 
 -- the columns of several buses, counted on one of them
-first_append : {E : Type 0} (name : List ℕ) (xs ys : List (Outline E)) → on_bus name (additive (xs ++ ys)) ≡ on_bus name (additive xs) ++ on_bus name (additive ys)
-first_append name xs ys = ap (filter (λ o. is_named name o.bus)) (filter-append is_additive xs ys) ∙ filter-append (λ o. is_named name o.bus) (additive xs) (additive ys)
+first_append : {E : Type 0} (name : List ℕ) (xs ys : List (Outline E)) → on_bus name (additive_lookups (xs ++ ys)) ≡ on_bus name (additive_lookups xs) ++ on_bus name (additive_lookups ys)
+first_append name xs ys = ap (filter (λ o. is_named name o.bus)) (filter-append is_additive xs ys) ∙ filter-append (λ o. is_named name o.bus) (additive_lookups xs) (additive_lookups ys)
 
 module _ {F : Type 0} (most : ℕ) (before : List (Outline (SymbolicExpression F))) (name : List ℕ) where
-  members_cut : (other : List ℕ) (cut : List (Outline (SymbolicExpression F) × List (Outline (SymbolicExpression F)))) → IsFilling AnswersDegree most cut (on_bus other (additive before)) → AllByRecursion (IsOn other) (flat_map part_items cut)
+  members_cut : (other : List ℕ) (cut : List (Outline (SymbolicExpression F) × List (Outline (SymbolicExpression F)))) → IsFilling AnswersDegree most cut (on_bus other (additive_lookups before)) → AllByRecursion (IsOn other) (flat_map part_items cut)
   members_cut other cut filling = subst (AllByRecursion (IsOn other)) (sym filling.0) (members_on other before)
 
   -- where no name is this one there is no column
-  none_on : (names : List (List ℕ)) (cuts : List (List (Outline (SymbolicExpression F) × List (Outline (SymbolicExpression F))))) → AllByRecursion (λ other. same_name name other ≡ false) names → AreFilled AnswersDegree most (additive before) names cuts
-      → on_bus name (additive (flat_map (λ cut. map joined cut) cuts)) ≡ []
+  none_on : (names : List (List ℕ)) (cuts : List (List (Outline (SymbolicExpression F) × List (Outline (SymbolicExpression F))))) → AllByRecursion (λ other. same_name name other ≡ false) names → AreFilled AnswersDegree most (additive_lookups before) names cuts
+      → on_bus name (additive_lookups (flat_map (λ cut. map joined_lookup cut) cuts)) ≡ []
   none_on [] [] apart filled = refl
   none_on (n ∷ ns) (cut ∷ cuts) apart filled =
-      first_append name (map joined cut) (flat_map (λ c. map joined c) cuts)
+      first_append name (map joined_lookup cut) (flat_map (λ c. map joined_lookup c) cuts)
       ∙ (λ i. other_columns name n apart.0 cut (members_cut n cut filled.0) i ++ none_on ns cuts apart.1 filled.1 i)
   none_on ns cuts apart filled = absurd filled
 
-  fewest_in : (names : List (List ℕ)) (cuts : List (List (Outline (SymbolicExpression F) × List (Outline (SymbolicExpression F))))) → IsSeparate same_name names → AreFilled AnswersDegree most (additive before) names cuts
-      → AllByRecursion IsPlain (on_bus name (additive before)) → (split : List (Outline (SymbolicExpression F) × List (Outline (SymbolicExpression F)))) → IsCut split (on_bus name (additive before)) → AllByRecursion (λ part. (part.1 ≡ []) ⊎ (outline_degree 0 (joined part) ≤ most)) split
-      → length (on_bus name (additive (flat_map (λ cut. map joined cut) cuts))) ≤ length split
+  fewest_in : (names : List (List ℕ)) (cuts : List (List (Outline (SymbolicExpression F) × List (Outline (SymbolicExpression F))))) → IsSeparate same_name names → AreFilled AnswersDegree most (additive_lookups before) names cuts
+      → AllByRecursion IsPlain (on_bus name (additive_lookups before)) → (split : List (Outline (SymbolicExpression F) × List (Outline (SymbolicExpression F)))) → IsCut split (on_bus name (additive_lookups before)) → AllByRecursion (λ part. (part.1 ≡ []) ⊎ (outline_degree 0 (joined_lookup part) ≤ most)) split
+      → length (on_bus name (additive_lookups (flat_map (λ cut. map joined_lookup cut) cuts))) ≤ length split
   fewest_in [] [] separate filled plain split is_cut within = omega arith
   fewest_in (n ∷ ns) (cut ∷ cuts) separate filled plain split is_cut within =
       let later = fewest_in ns cuts separate.1 filled.1 plain split is_cut within in
-      let both = ap length (first_append name (map joined cut) (flat_map (λ c. map joined c) cuts)) in
+      let both = ap length (first_append name (map joined_lookup cut) (flat_map (λ c. map joined_lookup c) cuts)) in
       elim (name_cases name n) [
         | inl is ↦
-            let here = subst (λ (m : List ℕ). IsFilling AnswersDegree most cut (on_bus m (additive before))) (sym is) filled.0 in
+            let here = subst (λ (m : List ℕ). IsFilling AnswersDegree most cut (on_bus m (additive_lookups before))) (sym is) filled.0 in
             let rest = none_on ns cuts (subst (λ (m : List ℕ). AllByRecursion (λ other. same_name m other ≡ false) ns) (sym is) separate.0) filled.1 in
-            omega (arith, both, ap length ((λ i. own_columns name cut (members_cut name cut here) i ++ rest i) ∙ append-nil (map joined cut)), length-map cut joined, fewest_of_bus most (on_bus name (additive before)) cut split plain here is_cut within)
-        | inr apart ↦ omega (arith, both, later, ap (λ t. length (t ++ on_bus name (additive (flat_map (λ c. map joined c) cuts)))) (other_columns name n apart cut (members_cut n cut filled.0)))
+            omega (arith, both, ap length ((λ i. own_columns name cut (members_cut name cut here) i ++ rest i) ∙ append-nil (map joined_lookup cut)), length-map cut joined_lookup, fewest_of_bus most (on_bus name (additive_lookups before)) cut split plain here is_cut within)
+        | inr apart ↦ omega (arith, both, later, ap (λ t. length (t ++ on_bus name (additive_lookups (flat_map (λ c. map joined_lookup c) cuts)))) (other_columns name n apart cut (members_cut n cut filled.0)))
       ]
   fewest_in ns cuts separate filled plain split is_cut within = absurd filled
 
 -- a packing by the degree of the gadget has the fewest columns
-pub fewest_columns : {F : Type 0} (most : ℕ) (before after : List (Outline (SymbolicExpression F))) → ((name : List ℕ) → AllByRecursion IsPlain (on_bus name (additive before))) → IsPacking AnswersDegree most before after → HasFewestColumns most before after
+pub fewest_columns : {F : Type 0} (most : ℕ) (before after : List (Outline (SymbolicExpression F))) → ((name : List ℕ) → AllByRecursion IsPlain (on_bus name (additive_lookups before))) → IsPacking AnswersDegree most before after → HasFewestColumns most before after
 fewest_columns most before after plain packing name split is_cut within =
-    let columns = flat_map (λ cut. map joined cut) packing.cuts in
-    let counted = first_append name (passing before) columns ∙ ap (λ t. on_bus name t ++ on_bus name (additive columns)) (none_additive before) in
-    subst (λ n. n ≤ length split) (sym (ap (λ os. length (on_bus name (additive os))) packing.columns ∙ on_bus-numbered name 0 (passing before ++ columns) ∙ ap length counted)) (fewest_in most before name (bus_names (additive before)) packing.cuts (first_seen_separate same_name (filter_map (λ o. o.bus) (additive before))) packing.filled (plain name) split is_cut within)
+    let columns = flat_map (λ cut. map joined_lookup cut) packing.cuts in
+    let counted = first_append name (passing before) columns ∙ ap (λ t. on_bus name t ++ on_bus name (additive_lookups columns)) (none_additive before) in
+    subst (λ n. n ≤ length split) (sym (ap (λ os. length (on_bus name (additive_lookups os))) packing.columns ∙ on_bus-numbered name 0 (passing before ++ columns) ∙ ap length counted)) (fewest_in most before name (bus_names (additive_lookups before)) packing.cuts (first_seen_separate same_name (filter_map (λ o. o.bus) (additive_lookups before))) packing.filled (plain name) split is_cut within)
 
 -- by the degree of the gadget a packing has the fewest columns
-pub fewest_packed : {F S : Type 0} (most : ℕ) (seen : S → List (Outline (SymbolicExpression F))) (before : List (Outline (SymbolicExpression F))) (r : Result S LookupError) → ((name : List ℕ) → AllByRecursion IsPlain (on_bus name (additive before))) → Packs AnswersDegree most seen before r → IfOk r (λ set. HasFewestColumns most before (seen set))
+pub fewest_packed : {F S : Type 0} (most : ℕ) (seen : S → List (Outline (SymbolicExpression F))) (before : List (Outline (SymbolicExpression F))) (r : Result S LookupError) → ((name : List ℕ) → AllByRecursion IsPlain (on_bus name (additive_lookups before))) → Packs AnswersDegree most seen before r → IfOk r (λ set. HasFewestColumns most before (seen set))
 fewest_packed most seen before (Ok set) plain packs = fewest_columns most before (seen set) plain packs.1
 fewest_packed most seen before (Err e) plain packs = tt

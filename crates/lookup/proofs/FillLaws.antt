@@ -11,7 +11,7 @@ use Rattle.lookup_model.specs.Weight.{weight_bound}
 use Rattle.lookup_model.specs.declared.error.LookupError.{LookupError}
 use Rattle.lookup_model.specs.declared.error.LookupError.TheVariants.{CountWeightOverflow}
 use Rattle.lookup.specs.Cuts.{AreClosed, IsGrown, part_items}
-use Rattle.lookup.specs.Packing.{IsAbove, IsFilling, IsStuck, Joins, joined, trial}
+use Rattle.lookup.specs.Packing.{IsAbove, IsFilling, IsStuck, Joins, joined_lookup, trial}
 use Rattle.lookup.specs.internal.Fillings.{AreGreedyColumns}
 use Rattle.lookup.proofs.ListLaws.{none_behind, snoc_split}
 
@@ -60,7 +60,7 @@ module _ {E : Type 0} where
   sum_by-one f o = sum_by-cons f o [] ∙ omega arith
 
   -- one lookup alone makes itself
-  pub joined_one : (o : Outline E) → joined (o, []) ≡ o
+  pub joined_one : (o : Outline E) → joined_lookup (o, []) ≡ o
   joined_one o = λ i. record o {
     elements = append-nil o.elements i;
     multiplicities = append-nil o.multiplicities i;
@@ -68,7 +68,7 @@ module _ {E : Type 0} where
   }
 
   -- a part with one more member makes what the part makes with the tuples and the weight of that one
-  pub joined_more : (part : Outline E × List (Outline E)) (o : Outline E) → joined (with_next part o) ≡ record (trial (joined part) o) { count_weight = (joined part).count_weight + o.count_weight }
+  pub joined_more : (part : Outline E × List (Outline E)) (o : Outline E) → joined_lookup (with_next part o) ≡ record (trial (joined_lookup part) o) { count_weight = (joined_lookup part).count_weight + o.count_weight }
   joined_more part o = λ i. record part.0 {
     elements = (flat_map-append (λ (p : Outline E). p.elements) (part_items part) (o ∷ []) ∙ ap (λ t. flat_map (λ (p : Outline E). p.elements) (part_items part) ++ t) (append-nil o.elements)) i;
     multiplicities = (flat_map-append (λ (p : Outline E). p.multiplicities) (part_items part) (o ∷ []) ∙ ap (λ t. flat_map (λ (p : Outline E). p.multiplicities) (part_items part) ++ t) (append-nil o.multiplicities)) i;
@@ -89,13 +89,13 @@ module _ {E : Type 0} (answers : Outline E → Result ℕ LookupError → Type 0
     pub parts : List (Outline E × List (Outline E))
     pub part : Outline E × List (Outline E)
     pub filling : IsFilling answers most (parts ++ part ∷ []) seen
-    pub front_is : map joined parts ≡ front
-    pub last_is : joined part ≡ last
+    pub front_is : map joined_lookup parts ≡ front
+    pub last_is : joined_lookup part ≡ last
 
   pub last_part : (seen columns front : List (Outline E)) (last : Outline E) → AreGreedyColumns answers most seen columns → columns ≡ front ++ last ∷ [] → HasLast seen front last
   last_part seen columns front last filled is =
-      let (parts, part, none, cut_is, front_is, last_is, none_is) = map_split joined filled.cut front last [] (sym filled.columns_are ∙ is) in
-      let nothing = nil_from_length none (sym (length-map none joined) ∙ ap length none_is) in
+      let (parts, part, none, cut_is, front_is, last_is, none_is) = map_split joined_lookup filled.cut front last [] (sym filled.columns_are ∙ is) in
+      let nothing = nil_from_length none (sym (length-map none joined_lookup) ∙ ap length none_is) in
       record {
         parts = parts;
         part = part;
@@ -119,8 +119,8 @@ module _ {E : Type 0} (answers : Outline E → Result ℕ LookupError → Type 0
         columns_are =
             after_is
             ∙ (λ i. sym has.front_is i ++ record (trial (sym has.last_is i) next) { count_weight = (sym has.last_is i).count_weight + next.count_weight } ∷ [])
-            ∙ ap (λ o. map joined has.parts ++ o ∷ []) (sym (joined_more has.part next))
-            ∙ sym (map-append joined has.parts (with_next has.part next ∷ []));
+            ∙ ap (λ o. map joined_lookup has.parts ++ o ∷ []) (sym (joined_more has.part next))
+            ∙ sym (map-append joined_lookup has.parts (with_next has.part next ∷ []));
       }
 
   -- a lookup opens a column behind the last one
@@ -128,7 +128,7 @@ module _ {E : Type 0} (answers : Outline E → Result ℕ LookupError → Type 0
       → ((n : ℕ) × answers (trial last next) (Ok n) × (most < n)) → after ≡ columns ++ next ∷ [] → AreGreedyColumns answers most (seen ++ next ∷ []) after
   next_column seen columns front after last next has is high after_is =
       let stays : IsAbove answers most has.part next = subst (λ (o : Outline E). (n : ℕ) × answers (trial o next) (Ok n) × (most < n)) (sym has.last_is) high in
-      let so_far : map joined (has.parts ++ has.part ∷ []) ≡ columns = map-append joined has.parts (has.part ∷ []) ∙ (λ i. has.front_is i ++ has.last_is i ∷ []) ∙ sym is in
+      let so_far : map joined_lookup (has.parts ++ has.part ∷ []) ≡ columns = map-append joined_lookup has.parts (has.part ∷ []) ∙ (λ i. has.front_is i ++ has.last_is i ∷ []) ∙ sym is in
       record {
         cut = (has.parts ++ has.part ∷ []) ++ (next, []) ∷ [];
         filling = (
@@ -138,7 +138,7 @@ module _ {E : Type 0} (answers : Outline E → Result ℕ LookupError → Type 0
         columns_are =
             after_is
             ∙ (λ i. sym so_far i ++ sym (joined_one next) i ∷ [])
-            ∙ sym (map-append joined (has.parts ++ has.part ∷ []) ((next, []) ∷ []));
+            ∙ sym (map-append joined_lookup (has.parts ++ has.part ∷ []) ((next, []) ∷ []));
       }
 
   -- a filling that is refused stays so when a further lookup comes

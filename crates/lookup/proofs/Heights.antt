@@ -25,7 +25,7 @@ use Rattle.lookup_model.specs.Trace.{sent_row_under}
 use Rattle.lookup_model.specs.Batches.Instances.{Instance}
 use Rattle.lookup_model.specs.Batches.Messages.{batch_messages, id_of, sent_rows_of}
 use Rattle.lookup.specs.Guards.{weighted_height, weighted_height_sum}
-use Rattle.lookup.specs.Weights.{HeightLaws, HasRole, Role, RowKeepsWeights, TraceKeepsWeights, all_roles, provided_keys, query_sum, size_of}
+use Rattle.lookup.specs.Weights.{HeightLaws, HasRole, Role, RowKeepsWeights, TraceKeepsWeights, all_roles, provided_keys, query_sum, size_of_role}
 
 module _ {A : Type 0} {R : Ring A} (laws : IsCommutativeRing R) where
   -- a signed number is a difference of two
@@ -73,17 +73,17 @@ module _ {F : Type 0} {R : Ring F} (laws : IsCommutativeRing R) (eq : F → F �
   net_is ms ps each none = absurd each
 
   -- and no greater than all sizes together
-  query_sum-small : (ms : List (Message F)) (ps : List Role) → nat_abs (query_sum eq key (zip ms ps)) ≤ sum_by size_of ps
+  query_sum-small : (ms : List (Message F)) (ps : List Role) → nat_abs (query_sum eq key (zip ms ps)) ≤ sum_by size_of_role ps
   query_sum-small [] ps = omega (arith, ints)
   query_sum-small (m ∷ ms) [] = omega (arith, ints)
-  query_sum-small (m ∷ ms) (p ∷ ps) = grind (arith, ints, query_sum-small ms ps, sum_by-cons size_of p ps)
+  query_sum-small (m ∷ ms) (p ∷ ps) = grind (arith, ints, query_sum-small ms ps, sum_by-cons size_of_role p ps)
 
   is_among : (ks : List (Key F)) → IsAmong key ks ⊎ (IsAmong key ks → ⊥)
   is_among [] = inr (λ none. none)
   is_among (k ∷ ks) = grind (arith, is_among ks, decides key k)
 
   -- the law over one list of messages
-  pub provided_key : (p : ℕ) → HasCharacteristic R p → (ms : List (Message F)) (ps : List Role) → AllZip (HasRole R) ms ps → sum_by size_of ps < p → IsBalanced R eq ms → query_sum eq key (zip ms ps) ≢ pos 0 → IsAmong key (provided_keys (zip ms ps))
+  pub provided_key : (p : ℕ) → HasCharacteristic R p → (ms : List (Message F)) (ps : List Role) → AllZip (HasRole R) ms ps → sum_by size_of_role ps < p → IsBalanced R eq ms → query_sum eq key (zip ms ps) ≢ pos 0 → IsAmong key (provided_keys (zip ms ps))
   provided_key p char ms ps each light balanced ne = elim (is_among (provided_keys (zip ms ps))) [
     | inl there ↦ there
     | inr absent ↦ absurd (ne (small_zero laws p char (query_sum eq key (zip ms ps)) (omega (arith, query_sum-small ms ps, light)) (sym (net_is ms ps each absent) ∙ balanced key)))
@@ -93,12 +93,12 @@ module _ {F : Type 0} (R : Ring F) where
   -- roles of some messages, no greater than a bound
   pub record AreBounded (ms : List (Message F)) (ps : List Role) (bound : ℕ) : Type 0 where
     pub divided : AllZip (HasRole R) ms ps
-    pub within : sum_by size_of ps ≤ bound
+    pub within : sum_by size_of_role ps ≤ bound
 
   bounded_both : (ms ns : List (Message F)) (ps qs : List Role) (a b c : ℕ) → AreBounded ms ps a → AreBounded ns qs b → a + b ≤ c → AreBounded (ms ++ ns) (ps ++ qs) c
   bounded_both ms ns ps qs a b c first second le = record {
     divided = AllZip-append (HasRole R) ms ps ns qs first.divided second.divided;
-    within = omega (arith, sum_by-append size_of ps qs, first.within, second.within, le);
+    within = omega (arith, sum_by-append size_of_role ps qs, first.within, second.within, le);
   }
 
   row_bounded : (lookups : List (Lookup F)) (row : List (Sent F)) (roles : List (List Role)) → length row ≡ length lookups → RowKeepsWeights R lookups row roles → AreBounded (flat_map (λ s. s.messages) row) (flat_map (λ p. p) roles) (sum_by (λ l. l.count_weight) lookups)

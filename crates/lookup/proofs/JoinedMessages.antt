@@ -17,7 +17,7 @@ use Rattle.lookup_model.specs.declared.types.Lookup.{Lookup}
 use Rattle.lookup.specs.Buses.{on_bus}
 use Rattle.lookup_model.specs.Names.{is_named}
 use Rattle.lookup.specs.Cuts.{part_items}
-use Rattle.lookup.specs.Packing.{AreFilled, additive, is_additive, joined}
+use Rattle.lookup.specs.Packing.{AreFilled, additive_lookups, is_additive, joined_lookup}
 use Rattle.lookup.proofs.Columns.{columns_give}
 use Rattle.lookup.proofs.Extracted.{sent_by_fields}
 use Rattle.lookup.proofs.FewestColumns.{IsOn, members_on}
@@ -71,16 +71,16 @@ module _ {F : Type 0} (R : Ring F) (eq : F → F → Bool) (w : Window F) where
 
     -- a part sends what its members send
     part_messages : (name : List ℕ) (part : Outline (SymbolicExpression F) × List (Outline (SymbolicExpression F))) → AllByRecursion (λ o. IsPlain o × IsOn name o) (part_items part)
-        → own_messages (joined part) ≡ flat_map own_messages (part_items part)
+        → own_messages (joined_lookup part) ≡ flat_map own_messages (part_items part)
     part_messages name part each =
-        all_branches name (joined part) (each.0.0).no_flags (each.0.1).named
+        all_branches name (joined_lookup part) (each.0.0).no_flags (each.0.1).named
         ∙ branches_joined (bus_id name) (part_items part) (all_weaker (λ o. IsPlain o × IsOn name o) IsPlain (λ o both. both.0) (part_items part) each)
         ∙ sym (flat_same own_messages (branches_of (bus_id name)) (part_items part) (all_weaker (λ o. IsPlain o × IsOn name o) (λ o. own_messages o ≡ branches_of (bus_id name) o) (λ o both. all_branches name o (both.0).no_flags (both.1).named) (part_items part) each))
 
     -- the columns of all buses send what the lookups on them send
     pub columns_messages : (answers : Outline (SymbolicExpression F) → Result ℕ LookupError → Type 0) (most : ℕ) (os : List (Outline (SymbolicExpression F))) (names : List (List ℕ)) (cuts : List (List (Outline (SymbolicExpression F) × List (Outline (SymbolicExpression F)))))
-        → ((name : List ℕ) → AllByRecursion IsPlain (on_bus name (additive os))) → AreFilled answers most (additive os) names cuts
-        → flat_map own_messages (flat_map (λ cut. map joined cut) cuts) ≡ flat_map (λ name. flat_map own_messages (on_bus name (additive os))) names
+        → ((name : List ℕ) → AllByRecursion IsPlain (on_bus name (additive_lookups os))) → AreFilled answers most (additive_lookups os) names cuts
+        → flat_map own_messages (flat_map (λ cut. map joined_lookup cut) cuts) ≡ flat_map (λ name. flat_map own_messages (on_bus name (additive_lookups os))) names
     columns_messages answers most os names cuts plain =
-        columns_give answers most (additive os) (λ name o. IsPlain o × IsOn name o)
-        (λ name. all_with IsPlain (IsOn name) (λ o. IsPlain o × IsOn name o) (λ o is on. (is, on)) (on_bus name (additive os)) (plain name) (members_on name os)) own_messages part_messages names cuts
+        columns_give answers most (additive_lookups os) (λ name o. IsPlain o × IsOn name o)
+        (λ name. all_with IsPlain (IsOn name) (λ o. IsPlain o × IsOn name o) (λ o is on. (is, on)) (on_bus name (additive_lookups os)) (plain name) (members_on name os)) own_messages part_messages names cuts

@@ -30,7 +30,7 @@ use Rattle.lookup.specs.Buses.{bus_names, on_bus}
 use Rattle.lookup_model.specs.Names.{same_name}
 use Rattle.lookup.specs.Cuts.{part_items}
 use Rattle.lookup.specs.KeptByPacking.{HasIdOfBus, HaveSameIds, KeepsMessages, KeepsNets, KeepsTotalWeight, unjoined_ids, row_messages, KeepsLawfulFlags, KeepsUnjoinedBuses, unjoined_buses, KeepsWidths, widths_of}
-use Rattle.lookup.specs.Packing.{AreFilled, IsPacking, additive, is_additive, joined, passing}
+use Rattle.lookup.specs.Packing.{AreFilled, IsPacking, additive_lookups, is_additive, joined_lookup, passing}
 use Rattle.lookup.proofs.Columns.{columns_all, unnumbered, unnumbered_all, columns_give}
 use Rattle.lookup.proofs.FewestColumns.{IsOn, members_on, none_additive}
 use Rattle.lookup.proofs.JoinedMessages.{columns_messages, messages_of, own_messages, seen_messages, on_some_bus}
@@ -51,18 +51,18 @@ module _ {E : Type 0} where
     module _ (after : List (Outline E)) (packing : IsPacking answers most before after) where
       -- the columns of all buses, which come behind what passes through
       abbrev columns : List (Outline E)
-      columns = flat_map (λ cut. map joined cut) packing.cuts
+      columns = flat_map (λ cut. map joined_lookup cut) packing.cuts
 
       -- but for the numbers of the columns
       after_is : map unnumbered after ≡ map unnumbered (passing before ++ columns)
       after_is = ap (map unnumbered) packing.columns ∙ unnumbered_all 0 (passing before ++ columns)
 
       -- what the lookups that may be joined give, bus by bus
-      on_buses : {M : Type 0} (f : Outline E → List M) → IsPermutation (flat_map f (additive before)) (flat_map (λ name. flat_map f (on_bus name (additive before))) (bus_names (additive before)))
-      on_buses f = grouped f (bus_names (additive before)) (additive before) (first_seen_separate same_name (filter_map (λ o. o.bus) (additive before))) (among_names (additive before) (filter_passes is_additive before))
+      on_buses : {M : Type 0} (f : Outline E → List M) → IsPermutation (flat_map f (additive_lookups before)) (flat_map (λ name. flat_map f (on_bus name (additive_lookups before))) (bus_names (additive_lookups before)))
+      on_buses f = grouped f (bus_names (additive_lookups before)) (additive_lookups before) (first_seen_separate same_name (filter_map (λ o. o.bus) (additive_lookups before))) (among_names (additive_lookups before) (filter_passes is_additive before))
 
       all_additive : AllByRecursion (λ o. is_additive o ≡ true) columns
-      all_additive = columns_all answers most (additive before) IsOn (λ name. members_on name before) (λ o. is_additive o ≡ true) (λ name part on. (on.0).joins) (bus_names (additive before)) packing.cuts packing.filled
+      all_additive = columns_all answers most (additive_lookups before) IsOn (λ name. members_on name before) (λ o. is_additive o ≡ true) (λ name part on. (on.0).joins) (bus_names (additive_lookups before)) packing.cuts packing.filled
 
       -- the lookups after that pass a test
       tested : (p : Outline E → Bool) → ((o : Outline E) → p (unnumbered o) ≡ p o) → map unnumbered (filter p after) ≡ map unnumbered (filter p (passing before) ++ filter p columns)
@@ -71,7 +71,7 @@ module _ {E : Type 0} where
           ∙ ap (map unnumbered) (filter-append p (passing before) columns)
 
       -- those that may be joined are the columns of the buses, and the others those that pass through
-      additive_after : map unnumbered (additive after) ≡ map unnumbered columns
+      additive_after : map unnumbered (additive_lookups after) ≡ map unnumbered columns
       additive_after = tested is_additive (λ o. refl) ∙ ap (map unnumbered) (λ i. none_additive before i ++ filter_all is_additive columns all_additive i)
 
       pub passing_after : map unnumbered (passing after) ≡ map unnumbered (passing before)
@@ -84,19 +84,19 @@ module _ {E : Type 0} where
   weight os = sum_by (λ o. o.count_weight) os
 
   -- a cut has the weight of its lookups
-  cut_weight : (cut : List (Outline E × List (Outline E))) → weight (map joined cut) ≡ weight (flat_map part_items cut)
+  cut_weight : (cut : List (Outline E × List (Outline E))) → weight (map joined_lookup cut) ≡ weight (flat_map part_items cut)
   cut_weight [] = refl
   cut_weight (p ∷ ps) =
-      sum_by-cons (λ o. o.count_weight) (joined p) (map joined ps)
+      sum_by-cons (λ o. o.count_weight) (joined_lookup p) (map joined_lookup ps)
       ∙ ap (λ n. weight (part_items p) + n) (cut_weight ps)
       ∙ sym (sum_by-append (λ o. o.count_weight) (part_items p) (flat_map part_items ps))
 
   module _ (answers : Outline E → Result ℕ LookupError → Type 0) (most : ℕ) (os : List (Outline E)) where
     columns_weight : (names : List (List ℕ)) (cuts : List (List (Outline E × List (Outline E)))) → AreFilled answers most os names cuts
-        → weight (flat_map (λ cut. map joined cut) cuts) ≡ weight (flat_map (λ name. flat_map (λ o. o ∷ []) (on_bus name os)) names)
+        → weight (flat_map (λ cut. map joined_lookup cut) cuts) ≡ weight (flat_map (λ name. flat_map (λ o. o ∷ []) (on_bus name os)) names)
     columns_weight [] [] filled = refl
     columns_weight (n ∷ ns) (c ∷ cs) filled =
-        sum_by-append (λ o. o.count_weight) (map joined c) (flat_map (λ cut. map joined cut) cs)
+        sum_by-append (λ o. o.count_weight) (map joined_lookup c) (flat_map (λ cut. map joined_lookup cut) cs)
         ∙ (λ i. (cut_weight c ∙ ap weight (filled.0.0 ∙ sym (singles (on_bus n os)))) i + columns_weight ns cs filled.1 i)
         ∙ sym (sum_by-append (λ o. o.count_weight) (flat_map (λ o. o ∷ []) (on_bus n os)) (flat_map (λ name. flat_map (λ o. o ∷ []) (on_bus name os)) ns))
     columns_weight ns cs filled = absurd filled
@@ -105,13 +105,13 @@ module _ {E : Type 0} where
   packed_weight answers most before after packing =
       let made = columns answers most before after packing in
       let same_weight = sum_by-IsPermutation (λ (o : Outline E). o.count_weight) in
-      let all_columns : weight made ≡ weight (additive before) = columns_weight answers most (additive before) (bus_names (additive before)) packing.cuts packing.filled ∙ same_weight _ _ (on_buses answers most before after packing (λ o. o ∷ [])) ∙ ap weight (singles (additive before)) in
-      let in_two = same_weight before (additive before ++ passing before) (IsPermutation-filter_both is_additive (λ o. not (is_additive o)) (λ o. refl) before) in
+      let all_columns : weight made ≡ weight (additive_lookups before) = columns_weight answers most (additive_lookups before) (bus_names (additive_lookups before)) packing.cuts packing.filled ∙ same_weight _ _ (on_buses answers most before after packing (λ o. o ∷ [])) ∙ ap weight (singles (additive_lookups before)) in
+      let in_two = same_weight before (additive_lookups before ++ passing before) (IsPermutation-filter_both is_additive (λ o. not (is_additive o)) (λ o. refl) before) in
       sym (sum_by-mapped (λ o. o.count_weight) unnumbered after)
       ∙ ap weight (after_is answers most before after packing)
       ∙ sum_by-mapped (λ o. o.count_weight) unnumbered (passing before ++ made)
       ∙ sum_by-append (λ o. o.count_weight) (passing before) made
-      ∙ omega (arith, all_columns, in_two, sum_by-append (λ o. o.count_weight) (additive before) (passing before))
+      ∙ omega (arith, all_columns, in_two, sum_by-append (λ o. o.count_weight) (additive_lookups before) (passing before))
 
 -- messages
 module _ {F : Type 0} (R : Ring F) (eq : F → F → Bool) (w : Window F) (bus_id : List ℕ → ℕ) (id : Lookup F → ℕ) where
@@ -126,7 +126,7 @@ module _ {F : Type 0} (R : Ring F) (eq : F → F → Bool) (w : Window F) (bus_i
       seen_messages R eq w (id l) l ∙ ap (λ n. messages_of R eq w n (fields_of l)) (has name on flags ∙ sym (ap (λ bus. option_map_or bus_id bus 0) on))
 
   additive_sent : (ls : List (Lookup F)) → AllByRecursion (HasIdOfBus bus_id id) ls
-      → flat_map sends (filter (λ l. is_additive (fields_of l)) ls) ≡ flat_map (own_messages R eq w bus_id) (additive (map fields_of ls))
+      → flat_map sends (filter (λ l. is_additive (fields_of l)) ls) ≡ flat_map (own_messages R eq w bus_id) (additive_lookups (map fields_of ls))
   additive_sent [] has = refl
   additive_sent (l ∷ ls) has = grind (arith, additive_sent ls has.1, λ (e : is_additive (fields_of l) ≡ true). own_sent l e has.0)
 
@@ -136,7 +136,7 @@ module _ {F : Type 0} (R : Ring F) (eq : F → F → Bool) (w : Window F) (bus_i
 
   -- the messages of a row: those of the lookups that may be joined, and those of the others
   divided : (ls : List (Lookup F)) → AllByRecursion (HasIdOfBus bus_id id) ls
-      → IsPermutation (row_messages R eq id w ls) (flat_map (own_messages R eq w bus_id) (additive (map fields_of ls)) ++ flat_map (λ p. messages_of R eq w p.0 p.1) (zip (unjoined_ids id ls) (map unnumbered (passing (map fields_of ls)))))
+      → IsPermutation (row_messages R eq id w ls) (flat_map (own_messages R eq w bus_id) (additive_lookups (map fields_of ls)) ++ flat_map (λ p. messages_of R eq w p.0 p.1) (zip (unjoined_ids id ls) (map unnumbered (passing (map fields_of ls)))))
   divided ls has =
       let others = others_sent (filter (λ l. not (is_additive (fields_of l))) ls) ∙ ap (λ os. flat_map (λ p. messages_of R eq w p.0 p.1) (zip (unjoined_ids id ls) (map unnumbered os))) (filter_seen fields_of (λ o. not (is_additive o)) ls) in
       subst₂ IsPermutation (sym (flat_map-map (λ sent. sent.messages) (λ l. sent_at R eq w (id l) l) ls)) (λ i. additive_sent ls has i ++ others i) (parted sends (λ l. is_additive (fields_of l)) ls)
@@ -156,15 +156,15 @@ module _ {F : Type 0} (answers : Outline (SymbolicExpression F) → Result ℕ L
         let own = own_messages R eq w same.bus_id in
         let os = map fields_of before in
         let made = columns answers most os (map fields_of after) packing in
-        let in_columns = columns_messages R eq w same.bus_id answers most os (bus_names (additive os)) packing.cuts (λ name. plain_on before name lengths) packing.filled in
-        let later = sym (flat_map-map own unnumbered (additive (map fields_of after))) ∙ ap (flat_map own) (additive_after answers most os (map fields_of after) packing) ∙ flat_map-map own unnumbered made in
-        let joined_sent = subst (IsPermutation (flat_map own (additive os))) (sym (later ∙ in_columns)) (on_buses answers most os (map fields_of after) packing own) in
+        let in_columns = columns_messages R eq w same.bus_id answers most os (bus_names (additive_lookups os)) packing.cuts (λ name. plain_on before name lengths) packing.filled in
+        let later = sym (flat_map-map own unnumbered (additive_lookups (map fields_of after))) ∙ ap (flat_map own) (additive_after answers most os (map fields_of after) packing) ∙ flat_map-map own unnumbered made in
+        let joined_sent = subst (IsPermutation (flat_map own (additive_lookups os))) (sym (later ∙ in_columns)) (on_buses answers most os (map fields_of after) packing own) in
         let send_others = λ (ids : List ℕ) (ps : List (Outline (SymbolicExpression F))). flat_map (λ p. messages_of R eq w p.0 p.1) (zip ids ps) in
         let others : send_others (unjoined_ids id_before before) (map unnumbered (passing os)) ≡ send_others (unjoined_ids id_after after) (map unnumbered (passing (map fields_of after))) =
         λ i. send_others (same.others i) (sym (passing_after answers most os (map fields_of after) packing) i) in
         IsPermutation-trans _ _ _ (divided R eq w same.bus_id id_before before same.by_bus_before)
         (IsPermutation-trans _ _ _
-        (subst (λ (t : List (Message F)). IsPermutation (flat_map own (additive os) ++ send_others (unjoined_ids id_before before) (map unnumbered (passing os))) (flat_map own (additive (map fields_of after)) ++ t)) others (IsPermutation-append_left _ _ _ joined_sent))
+        (subst (λ (t : List (Message F)). IsPermutation (flat_map own (additive_lookups os) ++ send_others (unjoined_ids id_before before) (map unnumbered (passing os))) (flat_map own (additive_lookups (map fields_of after)) ++ t)) others (IsPermutation-append_left _ _ _ joined_sent))
         (IsPermutation-sym _ _ (divided R eq w same.bus_id id_after after same.by_bus_after)))
 
 -- nets
@@ -238,8 +238,8 @@ module _ {F : Type 0} (answers : Outline (SymbolicExpression F) → Result ℕ L
       let os = map fields_of before in
       let made = columns answers most os (map fields_of after) packing in
       let later = sym (flat_map-map own unnumbered (map fields_of after)) ∙ ap (flat_map own) (after_is answers most os (map fields_of after) packing) ∙ flat_map-map own unnumbered (passing os ++ made) ∙ flat_map-append own (passing os) made in
-      let in_columns = columns_give answers most (additive os) (λ _ _. Unit {0}) (λ name. each_of (λ _. Unit {0}) (λ _. tt) (on_bus name (additive os))) own (λ name part _. map-flat_map length (λ o. o.elements) (part_items part)) (bus_names (additive os)) packing.cuts packing.filled in
-      let joined_widths = subst (IsPermutation (flat_map own (additive os))) (sym in_columns) (on_buses answers most os (map fields_of after) packing own) in
+      let in_columns = columns_give answers most (additive_lookups os) (λ _ _. Unit {0}) (λ name. each_of (λ _. Unit {0}) (λ _. tt) (on_bus name (additive_lookups os))) own (λ name part _. map-flat_map length (λ o. o.elements) (part_items part)) (bus_names (additive_lookups os)) packing.cuts packing.filled in
+      let joined_widths = subst (IsPermutation (flat_map own (additive_lookups os))) (sym in_columns) (on_buses answers most os (map fields_of after) packing own) in
       let both = IsPermutation-trans _ _ _ (IsPermutation-append_left (flat_map own (passing os)) _ _ joined_widths) (IsPermutation-append_comm (flat_map own made) (flat_map own (passing os))) in
       subst₂ IsPermutation (seen_widths before) (sym later ∙ seen_widths after) (IsPermutation-trans _ _ _ (parted own is_additive os) both)
     where

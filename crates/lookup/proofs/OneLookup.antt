@@ -12,7 +12,7 @@ use Rattle.lookup.specs.BusWidths.{IsWidthRefusal, widths_of}
 use Rattle.lookup.specs.Buses.{bus_names, on_bus}
 use Rattle.lookup_model.specs.Names.{is_named, same_name}
 use Rattle.lookup.specs.Cuts.{part_items}
-use Rattle.lookup.specs.Packing.{AreFilled, IsFillRefusal, IsPacking, Packs, additive, is_additive, joined, numbered, passing}
+use Rattle.lookup.specs.Packing.{AreFilled, IsFillRefusal, IsPacking, Packs, additive_lookups, is_additive, joined_lookup, numbered_lookups, passing}
 use Rattle.lookup.proofs.FillLaws.{joined_one}
 use Rattle.lookup_model.proofs.Names.{same_name-Decides}
 use Rattle.lookup.proofs.ListLaws.{none_behind}
@@ -20,36 +20,36 @@ use Rattle.lookup.proofs.JoinedMessages.{on_some_bus}
 
 module _ {E : Type 0} (o : Outline E) where
   -- a cut of one lookup makes that lookup
-  cut_of_one : (cut : List (Outline E × List (Outline E))) → flat_map part_items cut ≡ o ∷ [] → map joined cut ≡ o ∷ []
+  cut_of_one : (cut : List (Outline E × List (Outline E))) → flat_map part_items cut ≡ o ∷ [] → map joined_lookup cut ≡ o ∷ []
   cut_of_one [] e = absurd (cc e)
   cut_of_one ((first, []) ∷ []) e = cc (e, joined_one first)
   cut_of_one ((first, x ∷ xs) ∷ []) e = absurd (cc e)
   cut_of_one ((first, rest) ∷ q ∷ qs) e = let none : rest ++ q.0 ∷ (q.1 ++ flat_map part_items qs) ≡ [] = cc e in absurd (none_behind rest q.0 (q.1 ++ flat_map part_items qs) none)
 
   module _ (answers : Outline E → Result ℕ LookupError → Type 0) (most : ℕ) where
-    no_buses : (cuts : List (List (Outline E × List (Outline E)))) → AreFilled answers most [] [] cuts → flat_map (λ cut. map joined cut) cuts ≡ []
+    no_buses : (cuts : List (List (Outline E × List (Outline E)))) → AreFilled answers most [] [] cuts → flat_map (λ cut. map joined_lookup cut) cuts ≡ []
     no_buses [] filled = refl
     no_buses (c ∷ cs) filled = absurd filled
 
-    one_bus : (name : List ℕ) → o.bus ≡ Some name → (cuts : List (List (Outline E × List (Outline E)))) → AreFilled answers most (o ∷ []) (name ∷ []) cuts → flat_map (λ cut. map joined cut) cuts ≡ o ∷ []
+    one_bus : (name : List ℕ) → o.bus ≡ Some name → (cuts : List (List (Outline E × List (Outline E)))) → AreFilled answers most (o ∷ []) (name ∷ []) cuts → flat_map (λ cut. map joined_lookup cut) cuts ≡ o ∷ []
     one_bus name on [] filled = absurd filled
     one_bus name on (c ∷ d ∷ ds) filled = absurd filled.1
     one_bus name on (c ∷ []) filled =
         let named : is_named name o.bus ≡ true = ap (is_named name) on ∙ (same_name-Decides name name).1 refl in
-        append-nil (map joined c) ∙ cut_of_one c (filled.0.0 ∙ ap (λ b. cond b (o ∷ []) []) named)
+        append-nil (map joined_lookup c) ∙ cut_of_one c (filled.0.0 ∙ ap (λ b. cond b (o ∷ []) []) named)
 
     -- its packing is the lookup in column 0
     pub one_packed : (after : List (Outline E)) → IsPacking answers most (o ∷ []) after → after ≡ record o { column = 0 } ∷ []
-    one_packed after packing = packing.columns ∙ ap numbered (by_test (is_additive o) refl)
+    one_packed after packing = packing.columns ∙ ap numbered_lookups (by_test (is_additive o) refl)
       where
-        by_test : (b : Bool) → is_additive o ≡ b → passing (o ∷ []) ++ flat_map (λ cut. map joined cut) packing.cuts ≡ o ∷ []
+        by_test : (b : Bool) → is_additive o ≡ b → passing (o ∷ []) ++ flat_map (λ cut. map joined_lookup cut) packing.cuts ≡ o ∷ []
         by_test false e =
-            let none : additive (o ∷ []) ≡ [] = ap (λ b. cond b (o ∷ []) []) e in
+            let none : additive_lookups (o ∷ []) ≡ [] = ap (λ b. cond b (o ∷ []) []) e in
             let empty = no_buses packing.cuts (subst (λ (os : List (Outline E)). AreFilled answers most os (bus_names os) packing.cuts) none packing.filled) in
             (λ i. cond (not (e i)) (o ∷ []) [] ++ empty i)
         by_test true e =
             let (name, on, plain) = on_some_bus o e in
-            let one : additive (o ∷ []) ≡ o ∷ [] = ap (λ b. cond b (o ∷ []) []) e in
+            let one : additive_lookups (o ∷ []) ≡ o ∷ [] = ap (λ b. cond b (o ∷ []) []) e in
             let here = subst (λ (os : List (Outline E)). AreFilled answers most os (bus_names os) packing.cuts) one packing.filled in
             let names : bus_names (o ∷ []) ≡ name ∷ [] = ap (λ bus. first_seen same_name (cons_option bus [])) on in
             let filled = subst (λ (ns : List (List ℕ)). AreFilled answers most (o ∷ []) ns packing.cuts) names here in
@@ -62,8 +62,8 @@ module _ {E : Type 0} (o : Outline E) where
 
     never_stuck : (e : LookupError) → IsFillRefusal answers most (o ∷ []) e → ⊥
     never_stuck e refusal =
-        let members = on_bus refusal.item (additive (o ∷ [])) in
-        let few_members : length members ≤ 1 = omega (arith, few (λ p. is_named refusal.item p.bus) (additive (o ∷ [])), few is_additive (o ∷ [])) in
+        let members = on_bus refusal.item (additive_lookups (o ∷ [])) in
+        let few_members : length members ≤ 1 = omega (arith, few (λ p. is_named refusal.item p.bus) (additive_lookups (o ∷ [])), few is_additive (o ∷ [])) in
         let stuck = refusal.fault in
         let tried = flat_map part_items (stuck.closed ++ stuck.part ∷ []) in
         let many : length members ≡ length tried + suc (length stuck.rest) = ap length stuck.members_are ∙ length-append tried (stuck.next ∷ stuck.rest) in

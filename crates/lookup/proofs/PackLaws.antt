@@ -15,7 +15,7 @@ use Rattle.lookup_model.specs.declared.types.Lookup.{Lookup}
 use Rattle.lookup.specs.Buses.{bus_groups, bus_names, group_of, on_bus}
 use Rattle.std.proofs.lemmas.List.{append_assoc}
 use Rattle.lists.proofs.Items.{split_at, take_item}
-use Rattle.lookup.specs.Packing.{IsFillRefusal, IsFilling, IsPacking, IsStuck, additive, joined, numbered, passing}
+use Rattle.lookup.specs.Packing.{IsFillRefusal, IsFilling, IsPacking, IsStuck, additive_lookups, joined_lookup, numbered_lookups, passing}
 
 -- an item at its index
 pub at_index : {A : Type 0} (xs : List A) (i : ℕ) (x : A) → slice_get xs i ≡ Some x → (later : List A) × (xs ≡ take i xs ++ x ∷ later) × (take (i + 1) xs ≡ take i xs ++ x ∷ [])
@@ -37,7 +37,7 @@ module _ {E : Type 0} (answers : Outline E → Result ℕ LookupError → Type 0
   -- columns with those of each bus of a list behind them, each with its greedy cut
   abbrev pub AreColumnsAdded : List (List (Outline E)) → List (Outline E) → List (Outline E) → Type 0
   AreColumnsAdded buses before after =
-      (cuts : List (List (Outline E × List (Outline E)))) × AllZip (λ bus cut. IsFilling answers most cut bus) buses cuts × (after ≡ before ++ flat_map (λ cut. map joined cut) cuts)
+      (cuts : List (List (Outline E × List (Outline E)))) × AllZip (λ bus cut. IsFilling answers most cut bus) buses cuts × (after ≡ before ++ flat_map (λ cut. map joined_lookup cut) cuts)
 
   -- the refusal of the first bus of a list whose filling is refused
   abbrev pub IsFirstStuck : List (List (Outline E)) → LookupError → Type 0
@@ -52,21 +52,21 @@ groups_of {E} os = map-map {B = List ℕ × List (Outline E)} (λ g. g.1) (λ na
 
 module _ {E : Type 0} (answers : Outline E → Result ℕ LookupError → Type 0) (most : ℕ) (before : List (Outline E)) where
   -- the first bus that is stuck, by its name
-  pub fill_refusal : (buses : List (List (Outline E))) (e : LookupError) → buses ≡ map (λ name. on_bus name (additive before)) (bus_names (additive before)) → IsFirstStuck answers most buses e → IsFillRefusal answers most before e
+  pub fill_refusal : (buses : List (List (Outline E))) (e : LookupError) → buses ≡ map (λ name. on_bus name (additive_lookups before)) (bus_names (additive_lookups before)) → IsFirstStuck answers most buses e → IsFillRefusal answers most before e
   fill_refusal buses e are stuck =
-      let (earlier, name, later, names, earlier_is, name_is, later_is) = map_split (λ name. on_bus name (additive before)) (bus_names (additive before)) stuck.before stuck.item stuck.after (sym are ∙ stuck.split) in record {
+      let (earlier, name, later, names, earlier_is, name_is, later_is) = map_split (λ name. on_bus name (additive_lookups before)) (bus_names (additive_lookups before)) stuck.before stuck.item stuck.after (sym are ∙ stuck.split) in record {
         before = earlier;
         item = name;
         after = later;
         split = names;
-        good = (stuck.good.0, AllZip-map_left (λ bus cut. IsFilling answers most cut bus) (λ n. on_bus n (additive before)) earlier stuck.good.0 (rw earlier_is stuck.good.1));
+        good = (stuck.good.0, AllZip-map_left (λ bus cut. IsFilling answers most cut bus) (λ n. on_bus n (additive_lookups before)) earlier stuck.good.0 (rw earlier_is stuck.good.1));
         fault = rw name_is stuck.fault;
       }
 
   -- what passes through, and the columns of all buses
-  pub all_packed : (buses : List (List (Outline E))) (front columns after : List (Outline E)) → buses ≡ map (λ name. on_bus name (additive before)) (bus_names (additive before)) → front ≡ passing before → AreColumnsAdded answers most buses front columns → after ≡ numbered columns → IsPacking answers most before after
+  pub all_packed : (buses : List (List (Outline E))) (front columns after : List (Outline E)) → buses ≡ map (λ name. on_bus name (additive_lookups before)) (bus_names (additive_lookups before)) → front ≡ passing before → AreColumnsAdded answers most buses front columns → after ≡ numbered_lookups columns → IsPacking answers most before after
   all_packed buses front columns after are front_is added after_is = record {
     cuts = added.0;
-    filled = AllZip-map_left (λ bus cut. IsFilling answers most cut bus) (λ n. on_bus n (additive before)) (bus_names (additive before)) added.0 (subst (λ (t : List (List (Outline E))). AllZip (λ bus cut. IsFilling answers most cut bus) t added.0) are added.1);
-    columns = after_is ∙ ap numbered (added.2 ∙ ap (λ t. t ++ flat_map (λ cut. map joined cut) added.0) front_is);
+    filled = AllZip-map_left (λ bus cut. IsFilling answers most cut bus) (λ n. on_bus n (additive_lookups before)) (bus_names (additive_lookups before)) added.0 (subst (λ (t : List (List (Outline E))). AllZip (λ bus cut. IsFilling answers most cut bus) t added.0) are added.1);
+    columns = after_is ∙ ap numbered_lookups (added.2 ∙ ap (λ t. t ++ flat_map (λ cut. map joined_lookup cut) added.0) front_is);
   }

@@ -9,7 +9,7 @@ use Rattle.std.proofs.lemmas.Option.{get_or_from_slice_get, slice_get-get_or}
 use Rattle.lookup_model.specs.Outline.{Outline, fields_of}
 use Rattle.lookup_model.specs.Records.{AreRecords, HasEqualLengths, IsRecordAt}
 use Rattle.lookup_model.specs.declared.types.Lookup.{Lookup}
-use Rattle.lookup.specs.Packing.{numbered, numbered_from}
+use Rattle.lookup.specs.Packing.{numbered_lookups, numbered_from}
 
 -- one more well formed record
 pub AreRecords-push : {F : Type 0} (lookups : List (Lookup F)) (l : Lookup F) → AreRecords lookups → IsRecordAt (length lookups) l → AreRecords (lookups ++ l ∷ [])
@@ -44,7 +44,7 @@ pub record AreNumbered {F : Type 0} (lookups items : List (Lookup F)) (n : ℕ) 
   pub items_are : items ≡ front ++ rest
   pub long : length items ≡ length lookups
   pub at : length front ≡ n
-  pub fields : map fields_of front ++ numbered_from (length front) (map fields_of rest) ≡ numbered (map fields_of lookups)
+  pub fields : map fields_of front ++ numbered_from (length front) (map fields_of rest) ≡ numbered_lookups (map fields_of lookups)
   pub records : AreRecords front
   pub left : All HasEqualLengths rest
 
@@ -52,7 +52,7 @@ pub record AreNumbered {F : Type 0} (lookups items : List (Lookup F)) (n : ℕ) 
 pub one_numbered : {F : Type 0} (lookups items after : List (Lookup F)) (n : ℕ) (x : Lookup F) → AreNumbered lookups items n → n < length items → x ≡ get_or items n x → after ≡ set items n (record x { column = n }) → AreNumbered lookups after (n + 1)
 one_numbered {F} lookups items after n x so_far lt is after_is = by_rest so_far.rest so_far.items_are so_far.fields so_far.left
   where
-    by_rest : (rest : List (Lookup F)) → items ≡ so_far.front ++ rest → map fields_of so_far.front ++ numbered_from (length so_far.front) (map fields_of rest) ≡ numbered (map fields_of lookups) → All HasEqualLengths rest → AreNumbered lookups after (n + 1)
+    by_rest : (rest : List (Lookup F)) → items ≡ so_far.front ++ rest → map fields_of so_far.front ++ numbered_from (length so_far.front) (map fields_of rest) ≡ numbered_lookups (map fields_of lookups) → All HasEqualLengths rest → AreNumbered lookups after (n + 1)
     by_rest [] items_are fields left = absurd (omega (arith, lt, so_far.at, ap length items_are, length-append so_far.front []))
     by_rest (y ∷ ys) items_are fields left =
         let placed : Lookup F = record y { column = n } in

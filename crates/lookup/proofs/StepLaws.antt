@@ -18,7 +18,7 @@ use Rattle.lookup.specs.Buses.{on_bus}
 use Rattle.lookup_model.specs.Names.{is_named}
 use Rattle.lookup.specs.Cuts.{part_items}
 use Rattle.lookup.specs.internal.Fillings.{AreGreedyColumns, IsFilled, IsOpen, columns_of}
-use Rattle.lookup.specs.Packing.{IsStuck, additive, is_additive, trial}
+use Rattle.lookup.specs.Packing.{IsStuck, additive_lookups, is_additive, trial}
 use Rattle.lookup.specs.Trials.{IsMember, IsTrial, IsTrialAmong}
 use Rattle.lookup.specs.internal.Trials.{IsStep, IsTrialRefusal, IsTried}
 use Rattle.lookup.specs.declared.packing.filling.Bus.{Bus}
@@ -149,9 +149,9 @@ plain_of l member = record {
 }
 
 -- of well formed lookups those that may be joined are plain, on each bus
-pub plain_on : {F : Type 0} (ls : List (Lookup F)) (name : List ℕ) → All HasEqualLengths ls → AllByRecursion IsPlain (on_bus name (additive (map fields_of ls)))
-plain_on {F} ls name lengths = all_kept IsPlain (λ o. is_named name o.bus) (additive (map fields_of ls)) (plain ls (recursion_from_All HasEqualLengths ls lengths))
+pub plain_on : {F : Type 0} (ls : List (Lookup F)) (name : List ℕ) → All HasEqualLengths ls → AllByRecursion IsPlain (on_bus name (additive_lookups (map fields_of ls)))
+plain_on {F} ls name lengths = all_kept IsPlain (λ o. is_named name o.bus) (additive_lookups (map fields_of ls)) (plain ls (recursion_from_All HasEqualLengths ls lengths))
   where
-    plain : (xs : List (Lookup F)) → AllByRecursion HasEqualLengths xs → AllByRecursion IsPlain (additive (map fields_of xs))
+    plain : (xs : List (Lookup F)) → AllByRecursion HasEqualLengths xs → AllByRecursion IsPlain (additive_lookups (map fields_of xs))
     plain [] h = tt
     plain (x ∷ xs) h = grind (arith, plain xs h.1, λ (e : is_additive (fields_of x) ≡ true). plain_of x (additive_member x e h.0))

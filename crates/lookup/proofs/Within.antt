@@ -17,7 +17,7 @@ use Rattle.lookup_model.specs.declared.error.LookupError.{LookupError}
 use Rattle.lookup.specs.Buses.{bus_names}
 use Rattle.lookup_model.specs.Names.{is_named}
 use Rattle.lookup.specs.Cuts.{part_items}
-use Rattle.lookup.specs.Packing.{IsPacking, additive, is_additive, joined, numbered_from, passing}
+use Rattle.lookup.specs.Packing.{IsPacking, additive_lookups, is_additive, joined_lookup, numbered_from, passing}
 use Rattle.lookup.proofs.Columns.{columns_all}
 
 module _ {F : Type 0} (layout : AirLayout) where
@@ -108,7 +108,7 @@ module _ {F : Type 0} (layout : AirLayout) where
   abbrev Inside : Outline (SymbolicExpression F) → Type 0
   Inside o = IsOutlineInside layout o
 
-  joined_inside : (part : Outline (SymbolicExpression F) × List (Outline (SymbolicExpression F))) → AllByRecursion Inside (part_items part) → Inside (joined part)
+  joined_inside : (part : Outline (SymbolicExpression F) × List (Outline (SymbolicExpression F))) → AllByRecursion Inside (part_items part) → Inside (joined_lookup part)
   joined_inside part all = record {
     elements = all_of_parts (λ tuple. All (IsInside layout) tuple) Inside (λ o. o.elements) (λ o inside. inside.elements) (part_items part) all;
     multiplicities = all_of_parts (IsInside layout) Inside (λ o. o.multiplicities) (λ o inside. inside.multiplicities) (part_items part) all;
@@ -122,11 +122,11 @@ module _ {F : Type 0} (layout : AirLayout) where
   module _ (answers : Outline (SymbolicExpression F) → Result ℕ LookupError → Type 0) (most : ℕ) where
     packed_inside : (before after : List (Outline (SymbolicExpression F))) → IsPacking answers most before after → AllByRecursion Inside before → AllByRecursion Inside after
     packed_inside before after packing all =
-        let columns = flat_map (λ cut. map joined cut) packing.cuts in
+        let columns = flat_map (λ cut. map joined_lookup cut) packing.cuts in
         subst (λ (t : List (Outline (SymbolicExpression F))). AllByRecursion Inside t) (sym packing.columns)
         (numbered_inside 0 (passing before ++ columns)
         (all_both Inside (passing before) columns (all_kept Inside (λ o. not (is_additive o)) before all)
-        (columns_all answers most (additive before) (λ _. Inside) (λ name. all_kept Inside (λ o. is_named name o.bus) (additive before) (all_kept Inside is_additive before all)) Inside (λ _. joined_inside) (bus_names (additive before)) packing.cuts packing.filled)))
+        (columns_all answers most (additive_lookups before) (λ _. Inside) (λ name. all_kept Inside (λ o. is_named name o.bus) (additive_lookups before) (all_kept Inside is_additive before all)) Inside (λ _. joined_inside) (bus_names (additive_lookups before)) packing.cuts packing.filled)))
 
     -- a packing of lookups that fit fits
     pub packed_fit : (before after : List (Lookup F)) → IsPacking answers most (map fields_of before) (map fields_of after) → AreRecords after → LookupsFit layout before → LookupsFit layout after

@@ -7,7 +7,7 @@ use Rattle.lookup_model.specs.Outline.{Outline}
 use Rattle.lookup_model.specs.declared.error.LookupError.{LookupError}
 use Rattle.lookup.specs.Buses.{on_bus}
 use Rattle.lookup.specs.Cuts.{IsCut}
-use Rattle.lookup.specs.Packing.{additive, joined}
+use Rattle.lookup.specs.Packing.{additive_lookups, joined_lookup}
 
 module _ {F : Type 0} where
   -- what the gadget answers to a lookup, where the transition selector has degree 0: the degree, exactly
@@ -19,6 +19,6 @@ module _ {F : Type 0} where
   -- each part has one member or a joined lookup whose degree is within the budget.
   abbrev pub HasFewestColumns : ℕ → List (Outline (SymbolicExpression F)) → List (Outline (SymbolicExpression F)) → Type 0
   HasFewestColumns max_degree before after =
-      (name : List ℕ) (split : List (Outline (SymbolicExpression F) × List (Outline (SymbolicExpression F)))) → IsCut split (on_bus name (additive before))
-      → AllByRecursion (λ part. (part.1 ≡ []) ⊎ (outline_degree 0 (joined part) ≤ max_degree)) split
-      → length (on_bus name (additive after)) ≤ length split
+      (name : List ℕ) (split : List (Outline (SymbolicExpression F) × List (Outline (SymbolicExpression F)))) → IsCut split (on_bus name (additive_lookups before))
+      → AllByRecursion (λ part. (part.1 ≡ []) ⊎ (outline_degree 0 (joined_lookup part) ≤ max_degree)) split
+      → length (on_bus name (additive_lookups after)) ≤ length split

@@ -17,15 +17,15 @@ module _ {E : Type 0} where
   is_additive o = is_some o.bus && not (is_some o.flags)
 
   -- the lookups that may be joined, and those that pass through: local ones and those with flags
-  abbrev pub additive : List (Outline E) → List (Outline E)
-  additive os = filter is_additive os
+  abbrev pub additive_lookups : List (Outline E) → List (Outline E)
+  additive_lookups os = filter is_additive os
 
   abbrev pub passing : List (Outline E) → List (Outline E)
   passing os = filter (λ o. not (is_additive o)) os
 
   -- the lookup that a part makes: the tuples of all members, and the sum of their weights
-  abbrev pub joined : Outline E × List (Outline E) → Outline E
-  joined part = record part.0 {
+  abbrev pub joined_lookup : Outline E × List (Outline E) → Outline E
+  joined_lookup part = record part.0 {
     elements = flat_map (λ o. o.elements) (part_items part);
     multiplicities = flat_map (λ o. o.multiplicities) (part_items part);
     count_weight = sum_by (λ o. o.count_weight) (part_items part);
@@ -44,21 +44,21 @@ module _ {E : Type 0} where
   numbered_from n os = map (λ p. record p.1 { column = p.0 }) (enumerate_from n os)
 
   -- the lookups in the columns 0, 1, 2, …
-  abbrev pub numbered : List (Outline E) → List (Outline E)
-  numbered os = numbered_from 0 os
+  abbrev pub numbered_lookups : List (Outline E) → List (Outline E)
+  numbered_lookups os = numbered_from 0 os
 
   -- what a closure answers to a lookup: a degree, or a refusal
   module _ (answers : Outline E → Result ℕ LookupError → Type 0) (max_degree : ℕ) where
     -- an answer to the trial of a part with a further lookup is within the degree, or above it
     abbrev pub IsWithinDegree : Outline E × List (Outline E) → Outline E → Type 0
-    IsWithinDegree part next = (n : ℕ) × answers (trial (joined part) next) (Ok n) × (n ≤ max_degree)
+    IsWithinDegree part next = (n : ℕ) × answers (trial (joined_lookup part) next) (Ok n) × (n ≤ max_degree)
 
     abbrev pub IsAbove : Outline E × List (Outline E) → Outline E → Type 0
-    IsAbove part next = (n : ℕ) × answers (trial (joined part) next) (Ok n) × (max_degree < n)
+    IsAbove part next = (n : ℕ) × answers (trial (joined_lookup part) next) (Ok n) × (max_degree < n)
 
     -- A lookup joins a part: the trial is within the degree, and the weights have a sum that fits.
     abbrev pub Joins : Outline E × List (Outline E) → Outline E → Type 0
-    Joins part next = IsWithinDegree part next × ((joined part).count_weight + next.count_weight < weight_bound)
+    Joins part next = IsWithinDegree part next × ((joined_lookup part).count_weight + next.count_weight < weight_bound)
 
     -- A greedy cut of the lookups of one bus, by the answers to its trials.
     abbrev pub IsFilling : List (Outline E × List (Outline E)) → List (Outline E) → Type 0
@@ -73,8 +73,8 @@ module _ {E : Type 0} where
       pub rest : List (Outline E)
       pub members_are : members ≡ flat_map part_items (closed ++ part ∷ []) ++ next ∷ rest
       pub greedy : AreGreedy Joins IsAbove (closed ++ part ∷ [])
-      pub refusal : answers (trial (joined part) next) (Err e)
-          ⊎ ((e ≡ CountWeightOverflow) × IsWithinDegree part next × (weight_bound ≤ (joined part).count_weight + next.count_weight))
+      pub refusal : answers (trial (joined_lookup part) next) (Err e)
+          ⊎ ((e ≡ CountWeightOverflow) × IsWithinDegree part next × (weight_bound ≤ (joined_lookup part).count_weight + next.count_weight))
 
     -- each bus has its greedy cut
     abbrev pub AreFilled : List (Outline E) → List (List ℕ) → List (List (Outline E × List (Outline E))) → Type 0
@@ -84,15 +84,15 @@ module _ {E : Type 0} where
     -- 0, 1, 2, …
     pub record IsPacking (before after : List (Outline E)) : Type 0 where
       pub cuts : List (List (Outline E × List (Outline E)))
-      pub filled : AreFilled (additive before) (bus_names (additive before)) cuts
-      pub columns : after ≡ numbered (passing before ++ flat_map (λ cut. map joined cut) cuts)
+      pub filled : AreFilled (additive_lookups before) (bus_names (additive_lookups before)) cuts
+      pub columns : after ≡ numbered_lookups (passing before ++ flat_map (λ cut. map joined_lookup cut) cuts)
 
     -- The refusal of the first bus whose filling is refused.
     abbrev pub IsFillRefusal : List (Outline E) → LookupError → Type 0
     IsFillRefusal before e = SplitsAtFault
-        (λ earlier. (cuts : List (List (Outline E × List (Outline E)))) × AreFilled (additive before) earlier cuts)
-        (λ _ name. IsStuck (on_bus name (additive before)) e)
-        (bus_names (additive before))
+        (λ earlier. (cuts : List (List (Outline E × List (Outline E)))) × AreFilled (additive_lookups before) earlier cuts)
+        (λ _ name. IsStuck (on_bus name (additive_lookups before)) e)
+        (bus_names (additive_lookups before))
 
     -- The answer of packing, memory aside: where a bus has two widths, the refusal of the first such
     -- bus; else a packing, or the first refusal of a filling.

@@ -7,7 +7,7 @@ use Rattle.lookup_model.specs.declared.error.LookupError.{LookupError}
 use Rattle.lookup_model.specs.declared.types.Lookup.{Lookup}
 use Rattle.lookup.specs.Buses.{on_bus}
 use Rattle.lookup.specs.Cuts.{part_items}
-use Rattle.lookup.specs.Packing.{additive, joined, trial}
+use Rattle.lookup.specs.Packing.{additive_lookups, joined_lookup, trial}
 
 module _ {F : Type 0} where
   -- what a closure answers to a lookup with these fields
@@ -31,8 +31,8 @@ module _ {F : Type 0} where
     pub next : Outline (SymbolicExpression F)
     pub back : List (Outline (SymbolicExpression F))
     pub members_are : members ≡ front ++ part_items part ++ next ∷ back
-    pub is_trial : IsTrial (joined part) next lookup
+    pub is_trial : IsTrial (joined_lookup part) next lookup
 
   -- a trial among the lookups of one bus that may be joined
   abbrev pub IsBusTrial : List (Outline (SymbolicExpression F)) → Lookup F → Type 0
-  IsBusTrial os lookup = (name : List ℕ) × IsTrialAmong (on_bus name (additive os)) lookup
+  IsBusTrial os lookup = (name : List ℕ) × IsTrialAmong (on_bus name (additive_lookups os)) lookup

@@ -16,9 +16,9 @@ abbrev pub Role : Type 0
 Role = Option ℤ
 
 -- the absolute value of a query, 0 of a provided entry
-abbrev pub size_of : Role → ℕ
-size_of None = 0
-size_of (Some z) = nat_abs z
+abbrev pub size_of_role : Role → ℕ
+size_of_role None = 0
+size_of_role (Some z) = nat_abs z
 
 module _ {F : Type 0} (R : Ring F) where
   -- the multiplicity of a query is its number times 1
@@ -29,7 +29,7 @@ module _ {F : Type 0} (R : Ring F) where
   -- add up to at most its weight.
   pub record KeepsWeight (lookup : Lookup F) (sent : Sent F) (roles : List Role) : Type 0 where
     pub divided : AllZip HasRole sent.messages roles
-    pub within : sum_by size_of roles ≤ lookup.count_weight
+    pub within : sum_by size_of_role roles ≤ lookup.count_weight
 
   -- so those of all lookups of an AIR do on a row, and on all rows of its traces
   abbrev pub RowKeepsWeights : List (Lookup F) → List (Sent F) → List (List Role) → Type 0

@@ -5,7 +5,7 @@ use Rattle.field.specs.Residue.{Residue}
 use Rattle.air.specs.Traces.{AirTraces, height_of}
 use Rattle.field.specs.Extension.{Extension}
 use Rattle.field_monty.specs.Quartic.{Quartic}
-use Rattle.lookup_generation.specs.Ranges.{AnswersRows, RangesJoin, joined_rows, shifted, terminal_if_any}
+use Rattle.lookup_generation.specs.Ranges.{AnswersRows, RangesJoin, joined_rows, shifted_matrix, terminal_if_any}
 use Rattle.lookup_model.specs.Challenges.{column_challenges}
 use Rattle.lookup_model.specs.Denominators.{key_denominator}
 use Rattle.lookup_model.specs.Generated.{plain_matrix, plain_terminal_of}
@@ -104,8 +104,8 @@ module _ {p : ℕ} (positive : 0 < p) (E : Extension (Residue p) (Quartic (Resid
           answers = (join.neighbours whole lookups challenges first middle end from between within).made made.auxiliary next.auxiliary made.sum next.sum made.answers next.answers;
           cells_are =
               (λ i. made.cells_are i ++ is_moved.after_is i)
-              ∙ (λ i. output_cells made.auxiliary ++ output_cells (shifted E.ring (offset i) (rows_are whole lookups challenges middle end more other next i)))
-              ∙ sym (map-append numbers_of made.auxiliary.values (shifted E.ring made.sum next.auxiliary).values);
+              ∙ (λ i. output_cells made.auxiliary ++ output_cells (shifted_matrix E.ring (offset i) (rows_are whole lookups challenges middle end more other next i)))
+              ∙ sym (map-append numbers_of made.auxiliary.values (shifted_matrix E.ring made.sum next.auxiliary).values);
           total_is = cell_shifted total sum other is_sum.after_is ∙ (λ i. numbers_of (E.ring.add (offset i) (sum_is whole lookups challenges middle end more other next i)));
         }
 

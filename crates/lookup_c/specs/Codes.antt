@@ -76,7 +76,7 @@ part_number part.Offset = 18
 part_number part.Numbers = 19
 
 -- the part of a call that a part of the traces is
-abbrev pub part_of : TracePart → Part
-part_of trace_part.Main = part.Main
-part_of trace_part.Preprocessed = part.Preprocessed
-part_of trace_part.PublicValues = part.PublicValues
+abbrev pub call_part_of : TracePart → Part
+call_part_of trace_part.Main = part.Main
+call_part_of trace_part.Preprocessed = part.Preprocessed
+call_part_of trace_part.PublicValues = part.PublicValues

@@ -9,7 +9,7 @@ use Rattle.lookup_tables.specs.declared.tables.TableFault.{TableFault}
 use Rattle.lookup_tables.specs.declared.tables.TableFault.TheVariants as table_fault
 use Rattle.lookup_tables.specs.declared.traces.TraceFault.{TraceFault}
 use Rattle.lookup_tables.specs.declared.traces.TraceFault.TheVariants as trace_fault
-use Rattle.lookup_c.specs.Codes.{code_number, part_number, part_of, record_fault_number}
+use Rattle.lookup_c.specs.Codes.{code_number, part_number, call_part_of, record_fault_number}
 use Rattle.lookup_c.specs.declared.codes.Code.{Code}
 use Rattle.lookup_c.specs.declared.codes.Code.TheVariants as code
 use Rattle.lookup_c.specs.declared.codes.Part.{Part}
@@ -76,8 +76,8 @@ abbrev pub on_row : Code → ℕ → ℕ → ℕ → CodedRefusal
 on_row c a r l = record (of_code c) { air = a; row = r; lookup = l }
 
 -- the refusal of a size that is not the one that is expected
-abbrev pub unexpected : Code → ℕ → ℕ → CodedRefusal
-unexpected c e a = record (of_code c) { expected = e; actual = a }
+abbrev pub refusal_of_size : Code → ℕ → ℕ → CodedRefusal
+refusal_of_size c e a = record (of_code c) { expected = e; actual = a }
 
 -- the refusal of a number of a part
 abbrev pub bad_number : Part → ℕ → ℕ → CodedRefusal
@@ -110,8 +110,8 @@ table_refusal a l table_fault.TooManyNodesWritten = bad_table a l record_fault.L
 -- the refusal of the traces of an AIR
 abbrev pub trace_refusal : ℕ → TraceFault → CodedRefusal
 trace_refusal a trace_fault.Memory = of_code code.OutOfMemory
-trace_refusal a (trace_fault.Large p i) = bad_number (part_of p) a i
-trace_refusal a (trace_fault.Ragged p) = bad_rows code.NoWholeRows (part_of p) a
+trace_refusal a (trace_fault.Large p i) = bad_number (call_part_of p) a i
+trace_refusal a (trace_fault.Ragged p) = bad_rows code.NoWholeRows (call_part_of p) a
 
 -- the refusal of a witness, at the AIR that it names
 abbrev pub witness_refusal : LookupError → CodedRefusal
@@ -129,8 +129,8 @@ lookup_refusal at (lookup_error.VanishingDenominator r l) = on_row code.Vanishin
 lookup_refusal at (lookup_error.FlagNotBoolean r l) = on_row code.FlagNotBoolean at r l
 lookup_refusal at (lookup_error.FlagsNotExclusive r l) = on_row code.FlagsNotExclusive at r l
 lookup_refusal at (lookup_error.BadRecord l) = on_row code.MalformedLookup at 0 l
-lookup_refusal at (lookup_error.BusWidthMismatch bus e a) = unexpected code.BusWidths e a
-lookup_refusal at (lookup_error.TupleWidths context e a) = unexpected code.TupleWidths e a
+lookup_refusal at (lookup_error.BusWidthMismatch bus e a) = refusal_of_size code.BusWidths e a
+lookup_refusal at (lookup_error.TupleWidths context e a) = refusal_of_size code.TupleWidths e a
 lookup_refusal at (lookup_error.MultiplicityHeightBoundExceeded sum bits) = of_code code.HeightBound
 lookup_refusal at lookup_error.CountOverflow = of_code code.CountOverflow
 lookup_refusal at lookup_error.CountWeightOverflow = of_air code.WeightOverflow at
@@ -145,7 +145,7 @@ abbrev pub batch_refusal : BatchError → CodedRefusal
 batch_refusal batch_error.Memory = of_code code.OutOfMemory
 batch_refusal (batch_error.Lookup error) = lookup_refusal 0 error
 batch_refusal (batch_error.LengthMismatch e a) = bad_length part.Batch e a
-batch_refusal (batch_error.TooManyIds ids) = unexpected code.TooManyIds 0 ids
+batch_refusal (batch_error.TooManyIds ids) = refusal_of_size code.TooManyIds 0 ids
 batch_refusal batch_error.UnlawfulIds = of_code code.UnlawfulIds
 batch_refusal (batch_error.TraceMismatch air) = of_air code.TraceMismatch air
 batch_refusal batch_error.RepeatedChallenge = of_code code.RepeatedChallenge

@@ -3,7 +3,7 @@ use Rattle.std.specs.Prelude.{◌<◌, ◌≡◌, ◌⊎◌, ℕ, false, true, L
 use Rattle.field.specs.Residue.{Residue}
 use Rattle.field_monty.specs.Quartic.{Quartic}
 use Rattle.field.specs.Ring.{Ring}
-use Rattle.lookup_generation.specs.Ranges.{shifted}
+use Rattle.lookup_generation.specs.Ranges.{shifted_matrix}
 use Rattle.matrix.specs.Matrix.{Matrix}
 use Rattle.lookup_tables.specs.Numbers.{AreNumberGroupsBelow, IsFirstLargeNumberGroup, IsNumberGroup, quartic_of_numbers}
 use Rattle.lookup_tables.specs.TraceNumbers.{makes_rows}
@@ -20,7 +20,7 @@ shift_rows positive cells width = record { values = map (quartic_of_numbers posi
 
 -- the numbers of these rows, each shifted by an offset
 abbrev pub shifted_cells : {p : ℕ} → 0 < p → Ring (Quartic (Residue p)) → Quartic (Residue p) → ℕ → List (List ℕ) → List (List ℕ)
-shifted_cells positive R offset width cells = output_cells (shifted R offset (shift_rows positive cells width))
+shifted_cells positive R offset width cells = output_cells (shifted_matrix R offset (shift_rows positive cells width))
 
 module _ {p : ℕ} (positive : 0 < p) (cells : List (List ℕ)) (width : ℕ) (offset : List ℕ) where
   -- The cells make whole rows; they and the offset are below the modulus. Each row is shifted by the offset.

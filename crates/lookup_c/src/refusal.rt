@@ -1,7 +1,7 @@
 //! Refusals as C sees them.
 ghost use Rattle.std.specs.Prelude.{◌≡◌, ◌≢◌, ◌<◌, Some, length, slice_get};
-ghost use Rattle.lookup_c.specs.Codes.{part_of};
-ghost use Rattle.lookup_c.specs.Refusals.{IsRefusalOf, bad_length, bad_number, bad_rows, bad_table, batch_refusal, lookup_refusal, no_refusal, of_air, of_code, on_row, refusal_numbers, refusal_of, table_refusal, trace_refusal, unexpected, witness_refusal};
+ghost use Rattle.lookup_c.specs.Codes.{call_part_of};
+ghost use Rattle.lookup_c.specs.Refusals.{IsRefusalOf, bad_length, bad_number, bad_rows, bad_table, batch_refusal, lookup_refusal, no_refusal, of_air, of_code, on_row, refusal_numbers, refusal_of, table_refusal, trace_refusal, refusal_of_size, witness_refusal};
 
 use crate::codes::{Code, Part, RecordFault};
 use crate::fault::Fault;
@@ -73,7 +73,7 @@ fn on_row(code: Code, air: usize, row: usize, lookup: usize) -> Refusal
 
 /// The refusal of a size that is not the one that is expected.
 fn unexpected(code: Code, expected: usize, actual: usize) -> Refusal
-    ensures { result ≡ refusal_numbers (unexpected code expected actual) }
+    ensures { result ≡ refusal_numbers (refusal_of_size code expected actual) }
 {
     Refusal {
         expected,
@@ -145,7 +145,7 @@ fn table_refusal(air: usize, lookup: usize, fault: &TableFault) -> Refusal
 }
 
 fn part_of(part: TracePart) -> Part
-    ensures { result ≡ part_of part }
+    ensures { result ≡ call_part_of part }
 {
     match part {
         TracePart::Main => Part::Main,

@@ -17,7 +17,7 @@ use Rattle.lookup_columns.specs.Columns.{column}
 use Rattle.lookup_columns.specs.Steps.{AreStepsOf, StepFits, StepsFit, steps_in_order}
 use Rattle.lookup_columns.specs.declared.step.Step.{Step}
 use Rattle.lookup_columns.specs.declared.step.Step.TheVariants.{Leaf, Add, Sub, Mul, Neg}
-use Rattle.lookup_columns.specs.internal.Slots.{after}
+use Rattle.lookup_columns.specs.internal.Slots.{slots_after_step}
 use Rattle.lookup_model.specs.Records.{AllFit}
 
 module _ {F : Type 0} where
@@ -53,22 +53,22 @@ module _ {F : Type 0} where
     -- the slots after some steps
     unfoldable pub worked_out : List (Step F) → List (List F) → List (List F)
     worked_out [] s = s
-    worked_out (x ∷ xs) s = worked_out xs (after R window rows x s)
+    worked_out (x ∷ xs) s = worked_out xs (slots_after_step R window rows x s)
 
     worked_out-append : (xs ys : List (Step F)) (s : List (List F)) → worked_out (xs ++ ys) s ≡ worked_out ys (worked_out xs s)
     unfolding worked_out
     worked_out-append [] ys s = refl
-    worked_out-append (x ∷ xs) ys s = worked_out-append xs ys (after R window rows x s)
+    worked_out-append (x ∷ xs) ys s = worked_out-append xs ys (slots_after_step R window rows x s)
 
     -- the steps of two trees and an operation
-    both : (s : Step F) (a b : Tree F) (c : List F) → ((z : List (List F)) → after R window rows s (column R window rows b ∷ column R window rows a ∷ z) ≡ c ∷ z)
+    both : (s : Step F) (a b : Tree F) (c : List F) → ((z : List (List F)) → slots_after_step R window rows s (column R window rows b ∷ column R window rows a ∷ z) ≡ c ∷ z)
         → ((z : List (List F)) → worked_out (steps_in_order a) z ≡ column R window rows a ∷ z)
         → ((z : List (List F)) → worked_out (steps_in_order b) z ≡ column R window rows b ∷ z)
         → (z : List (List F)) → worked_out (steps_in_order a ++ steps_in_order b ++ s ∷ []) z ≡ c ∷ z
     unfolding worked_out
     both s a b c is left right z =
         worked_out-append (steps_in_order a ++ steps_in_order b) (s ∷ []) z
-        ∙ ap (λ y. after R window rows s y) (worked_out-append (steps_in_order a) (steps_in_order b) z ∙ ap (worked_out (steps_in_order b)) (left z) ∙ right (column R window rows a ∷ z))
+        ∙ ap (λ y. slots_after_step R window rows s y) (worked_out-append (steps_in_order a) (steps_in_order b) z ∙ ap (worked_out (steps_in_order b)) (left z) ∙ right (column R window rows a ∷ z))
         ∙ is z
 
     -- the steps of a tree fill one slot with its values
@@ -79,5 +79,5 @@ module _ {F : Type 0} where
     worked_out_tree (sub a b) z = both Sub a b _ (λ y. ap (λ c. c ∷ y) (zip_of_maps (sub_in R) (λ r. value_of R (window r) a) (λ r. value_of R (window r) b) rows)) (worked_out_tree a) (worked_out_tree b) z
     worked_out_tree (mul a b) z = both Mul a b _ (λ y. ap (λ c. c ∷ y) (zip_of_maps R.mul (λ r. value_of R (window r) a) (λ r. value_of R (window r) b) rows)) (worked_out_tree a) (worked_out_tree b) z
     worked_out_tree (neg a) z =
-        worked_out-append (steps_in_order a) (Neg ∷ []) z ∙ ap (λ y. after R window rows Neg y) (worked_out_tree a z)
+        worked_out-append (steps_in_order a) (Neg ∷ []) z ∙ ap (λ y. slots_after_step R window rows Neg y) (worked_out_tree a z)
         ∙ ap (λ c. c ∷ z) (map-map R.neg (λ r. value_of R (window r) a) rows)

@@ -6,9 +6,9 @@ ghost use Rattle.expressions.specs.Layout.{LeafFits};
 ghost use Rattle.expressions.specs.Meaning.{row_at};
 ghost use Rattle.expressions.specs.Tree.{Tree};
 ghost use Rattle.lookup_columns.specs.Columns.{column, leaf_column};
-ghost use Rattle.lookup_columns.specs.Slots.{filled};
+ghost use Rattle.lookup_columns.specs.Slots.{filled_slots};
 ghost use Rattle.lookup_columns.specs.Steps.{StepFits, steps_in_order};
-ghost use Rattle.lookup_columns.specs.internal.Slots.{after};
+ghost use Rattle.lookup_columns.specs.internal.Slots.{slots_after_step};
 ghost use Rattle.air.specs.Traces.{height_of, layout_of, traces_of, window_of};
 ghost use Rattle.matrix.specs.Matrix.{height, row};
 
@@ -213,7 +213,7 @@ fn push_made<F: Field>(
     left: Vec<F>,
     right: Vec<F>,
 ) -> Result<(), AllocError>
-    ensures { OnOk result (filled slots.new ≡ values.items ∷ filled slots.old) }
+    ensures { OnOk result (filled_slots slots.new ≡ values.items ∷ filled_slots slots.old) }
 {
     slots.put(left)?;
     slots.put(right)?;
@@ -231,8 +231,8 @@ fn work_out<F: Field>(
 ) -> Result<(), AllocError>
     requires fits { StepFits (layout_of (traces_of traces.now)) step }
     requires rows_exist { All (λ r. r < height_of (traces_of traces.now)) rows.now }
-    ensures { OnOk result (filled slots.new ≡ after F.ring (window_of (traces_of traces.now))
-        rows.now step (filled slots.old)) }
+    ensures { OnOk result (filled_slots slots.new ≡ slots_after_step F.ring (window_of (traces_of traces.now))
+        rows.now step (filled_slots slots.old)) }
 {
     let mut values = slots.take(alloc, room)?;
     match step {

@@ -3,7 +3,7 @@ use Rattle.std.proofs.Common.{◌≡◌, ◌++◌, [], ◌∷◌, Bool, true, fa
 use Rattle.std.proofs.lemmas.List.{length-map}
 use Rattle.std.specs.Borrow.{Bor}
 use Rattle.field.specs.Ring.{Ring}
-use Rattle.lookup_debug.specs.BusTable.{TupleEntry, capped, entry_of, label_of, tuple_entry, tuple_places}
+use Rattle.lookup_debug.specs.BusTable.{TupleEntry, saturated_usize, entry_of, label_of, tuple_entry, tuple_places}
 use Rattle.lookup_debug.specs.Contributions.{Contribution}
 use Rattle.lookup_debug.specs.FirstUnbalanced.{IsUnbalancedIn}
 use Rattle.lookup_debug.specs.Mismatch.{IsFirst, net_amount}
@@ -39,6 +39,6 @@ module _ {F : Type 0} (R : Ring F) (eq : F → F → Bool) (text : F → List �
         label_is = label_is;
         first = subst (IsFirst R eq text cs) (sym tuple_is) found.0;
         entry_is = entry
-            ∙ (λ i. record { tuple = m.0.now; net = found.1 i; place_count = capped (length (tuple_places R eq cs m.0.now)); places = take limit (tuple_places R eq cs m.0.now) })
+            ∙ (λ i. record { tuple = m.0.now; net = found.1 i; place_count = saturated_usize (length (tuple_places R eq cs m.0.now)); places = take limit (tuple_places R eq cs m.0.now) })
             ∙ ap (tuple_entry R eq limit cs) (sym tuple_is);
       }

@@ -10,7 +10,7 @@ use Rattle.std.specs.Map.{lookup}
 use Rattle.lists.proofs.Images.{from_map, map_at}
 use Rattle.lists.proofs.Items.{some_is}
 use Rattle.field.specs.Ring.{Ring}
-use Rattle.lookup_debug.specs.BusTable.{TupleEntry, capped, entry_of, tuple_places}
+use Rattle.lookup_debug.specs.BusTable.{TupleEntry, saturated_usize, entry_of, tuple_places}
 use Rattle.lookup_debug.specs.Contributions.{Contribution, SentLocation}
 use Rattle.lookup_debug.specs.Mismatch.{of_tuple}
 use Rattle.lookup_debug.specs.declared.unbalanced.UnbalancedTuple.{UnbalancedTuple}
@@ -54,7 +54,7 @@ module _ {F : Type 0} (R : Ring F) (eq : F → F → Bool) (eq_is : (a b : F) �
     same_entry : (cs ds : List (Contribution F)) (e : Bor (List F) × F) → tuple_places R eq ds e.0.now ≡ tuple_places R eq cs e.0.now → placed_entry R eq limit cs e ≡ placed_entry R eq limit ds e
     same_entry cs ds e same =
         let ps : tuple_places R eq cs e.0.now ≡ tuple_places R eq ds e.0.now = sym same in
-        λ j. record { tuple = e.0.now; net = e.1; place_count = capped (length (ps j)); places = take limit (ps j) }
+        λ j. record { tuple = e.0.now; net = e.1; place_count = saturated_usize (length (ps j)); places = take limit (ps j) }
 
     module _ (cs : List (Contribution F)) (c : Contribution F) (es : List (Bor (List F) × F)) (us : List (UnbalancedTuple F)) (so_far : map entry_of us ≡ map (placed_entry R eq limit cs) es) where
       abbrev keys : List (Bor (List F))

@@ -5,7 +5,7 @@ use Rattle.std.specs.Borrow.{Bor}
 use Rattle.std.specs.List.{filter}
 use Rattle.lists.proofs.Images.{filter_images, map-map}
 use Rattle.field.specs.Ring.{Ring}
-use Rattle.lookup_debug.specs.BusTable.{TupleEntry, capped, tuple_entry, tuple_places}
+use Rattle.lookup_debug.specs.BusTable.{TupleEntry, saturated_usize, tuple_entry, tuple_places}
 use Rattle.lookup_debug.specs.Contributions.{Contribution}
 use Rattle.lookup_debug.specs.Mismatch.{net_amount}
 use Rattle.lookup_debug.specs.internal.Nets.{tuple_entries}
@@ -40,7 +40,7 @@ module _ {F : Type 0} (R : Ring F) (eq : F → F → Bool) (cs : List (Contribut
       from_pair p = record {
         tuple = p.0;
         net = p.1;
-        place_count = capped (length (tuple_places R eq cs p.0));
+        place_count = saturated_usize (length (tuple_places R eq cs p.0));
         places = take limit (tuple_places R eq cs p.0);
       }
 

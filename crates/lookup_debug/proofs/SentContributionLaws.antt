@@ -6,7 +6,7 @@ use Rattle.field.specs.Ring.{Ring, IsCommutativeRing}
 use Rattle.field.specs.laws.RingFacts.{one_mul, zero_mul}
 use Rattle.expressions.specs.Window.{Window}
 use Rattle.lookup_model.specs.Message.{Message}
-use Rattle.lookup_model.specs.Sent.{branches_at, chosen, flags_at, sent, sent_at}
+use Rattle.lookup_model.specs.Sent.{branches_at, chosen_branches, flags_at, sent, sent_at}
 use Rattle.lookup_model.specs.declared.types.Lookup.{Lookup}
 use Rattle.lookup_debug.specs.Contributions.{Contribution, SentLocation, amounts, contributions_at, contributions_from, nonzero}
 use Rattle.lookup_debug.specs.SentContributions.{message_contribution, sent_contributions}
@@ -30,7 +30,7 @@ module _ {F : Type 0} {R : Ring F} (laws : IsCommutativeRing R) (eq : F → F �
   abbrev of_branch : F → Message F → Contribution F
   of_branch f b = record { tuple = b.key.tuple; amount = R.mul f b.multiplicity; location = location }
 
-  with_flags : (flags : List F) (branches : List (Message F)) → AreBoolean flags → flagged flags branches ≡ nonzero R eq (map (message_contribution location) (chosen R eq flags branches))
+  with_flags : (flags : List F) (branches : List (Message F)) → AreBoolean flags → flagged flags branches ≡ nonzero R eq (map (message_contribution location) (chosen_branches R eq flags branches))
   with_flags [] [] boolean = refl
   with_flags [] (b ∷ bs) boolean = refl
   with_flags (f ∷ fs) [] boolean = refl

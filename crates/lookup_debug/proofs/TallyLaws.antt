@@ -3,7 +3,7 @@ use Rattle.std.proofs.Common.{◌≡◌, ◌++◌, ◌+◌, ◌≤◌, List, ℕ
 use Rattle.std.proofs.Math.Seq.{drop-append_seam}
 use Rattle.std.proofs.lemmas.List.{drop-map, length-map, map-append}
 use Rattle.lists.proofs.Images.{map-map}
-use Rattle.lookup_debug.specs.BusTable.{capped}
+use Rattle.lookup_debug.specs.BusTable.{saturated_usize}
 use Rattle.lookup_debug.specs.Contributions.{Contribution}
 use Rattle.lookup_debug.specs.declared.arena.Contributions.{Contributions}
 use Rattle.lookup_debug.specs.declared.arena.TupleSpan.{TupleSpan}
@@ -11,12 +11,12 @@ use Rattle.lookup_debug.specs.internal.Appended.{Appends, without_location}
 use Rattle.lookup_debug.specs.internal.Arena.{span_amount}
 
 -- a number that is capped before it is added
-pub capped-later : (m n : ℕ) → capped (m + capped n) ≡ capped (m + n)
+pub capped-later : (m n : ℕ) → saturated_usize (m + saturated_usize n) ≡ saturated_usize (m + n)
 capped-later m n = omega arith
 
 -- a number that was counted from nothing
-pub capped-from : (after before n : ℕ) → after ≡ capped (before + n) → before ≡ 0 → after ≡ capped n
-capped-from after before n e none = e ∙ ap capped (ap (λ b. b + n) none ∙ zero-add n)
+pub capped-from : (after before n : ℕ) → after ≡ saturated_usize (before + n) → before ≡ 0 → after ≡ saturated_usize n
+capped-from after before n e none = e ∙ ap saturated_usize (ap (λ b. b + n) none ∙ zero-add n)
 
 -- the amounts of the spans that are appended are those of the contributions
 pub appended_amounts : {F : Type 0} (before after : Contributions F) (more : List (Contribution F)) → Appends before after more

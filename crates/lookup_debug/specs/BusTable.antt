@@ -15,8 +15,8 @@ use Rattle.lookup_debug.specs.declared.unbalanced.Place.{Place}
 use Rattle.lookup_debug.specs.declared.unbalanced.UnbalancedTuple.{UnbalancedTuple}
 
 -- a number, but at most the greatest `usize`
-abbrev pub capped : ℕ → ℕ
-capped n = min n (2 ^ 64 - 1)
+abbrev pub saturated_usize : ℕ → ℕ
+saturated_usize n = min n (2 ^ 64 - 1)
 
 -- the label of the group of this name; different names have different labels
 abbrev pub label_of : GroupName → List ℕ
@@ -44,11 +44,11 @@ pub record GroupRow (F : Type 0) : Type 0 where
 
 module _ {F : Type 0} where
   -- what values of the program hold
-  abbrev pub place_of : Place F → SentLocation × F
-  place_of p = (location_of p.location, p.count)
+  abbrev pub location_and_count_of : Place F → SentLocation × F
+  location_and_count_of p = (location_of p.location, p.count)
 
   abbrev pub entry_of : UnbalancedTuple F → TupleEntry F
-  entry_of u = record { tuple = u.tuple.items; net = u.net; place_count = u.place_count; places = map place_of u.places.items }
+  entry_of u = record { tuple = u.tuple.items; net = u.net; place_count = u.place_count; places = map location_and_count_of u.places.items }
 
   abbrev pub row_of : BusGroup F → GroupRow F
   row_of g = record {
@@ -86,7 +86,7 @@ module _ {F : Type 0} (R : Ring F) (eq : F → F → Bool) where
     tuple_entry cs tuple = record {
       tuple = tuple;
       net = net_amount R eq cs tuple;
-      place_count = capped (length (tuple_places cs tuple));
+      place_count = saturated_usize (length (tuple_places cs tuple));
       places = take limit (tuple_places cs tuple);
     }
 
@@ -95,8 +95,8 @@ module _ {F : Type 0} (R : Ring F) (eq : F → F → Bool) where
     group_row negative group =
         let cs = group.contributions in record {
           label = group.label;
-          sent = capped (sent_count negative cs);
-          received = capped (received_count negative cs);
+          sent = saturated_usize (sent_count negative cs);
+          received = saturated_usize (received_count negative cs);
           distinct = length (distinct_tuples cs);
           unbalanced = length (unbalanced_tuples cs);
           first = map (tuple_entry cs) (take limit (unbalanced_tuples cs));

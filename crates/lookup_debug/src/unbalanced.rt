@@ -1,6 +1,6 @@
 //! Tuples that do not balance, as data.
 ghost use Rattle.std.specs.Prelude.{◌≡◌, ◌++◌, ◌∷◌, [], IfOk, List, OnOk};
-ghost use Rattle.lookup_debug.specs.BusTable.{place_of};
+ghost use Rattle.lookup_debug.specs.BusTable.{location_and_count_of};
 ghost use Rattle.lookup_debug.specs.Contributions.{SentLocation};
 ghost use Rattle.lookup_debug.specs.internal.Kept.{IsKept};
 
@@ -48,7 +48,7 @@ impl<F: Copy> UnbalancedTuple<F> {
         ensures tuple { self.new.tuple ≡ self.old.tuple }
         ensures net { self.new.net ≡ self.old.net }
         ensures place { (places : List (SentLocation × F)) → IsKept limit places self.old
-            → OnOk result (IsKept limit (places ++ place_of place ∷ []) self.new) }
+            → OnOk result (IsKept limit (places ++ location_and_count_of place ∷ []) self.new) }
     {
         self.place_count = self.place_count.saturating_add(1);
         if self.places.len() < limit {

@@ -22,15 +22,15 @@ module _ {B X C : Type 0} (accepts : B → X → B → Type 0) (is : C → X →
 module _ {B X C : Type 0} (accepts : B → X → B → Type 0) (refuses : B → X → AirError → B → Type 0) (stops : B → AirError → Type 0) (is : C → X → Type 0) where
   -- Some of the constraints are accepted in order. Then either the next expression can't be made
   -- and the state stays, or that expression is refused.
-  unfoldable pub Fails : B → List C → AirError → B → Type 0
-  Fails b [] e c = ⊥
-  Fails b (k ∷ ks) e c =
-      ((c ≡ b) × stops b e) ⊎ (((x : X) × is k x × refuses b x e c) ⊎ ((d : B) × (x : X) × is k x × accepts b x d × Fails d ks e c))
+  unfoldable pub FailsAtConstraint : B → List C → AirError → B → Type 0
+  FailsAtConstraint b [] e c = ⊥
+  FailsAtConstraint b (k ∷ ks) e c =
+      ((c ≡ b) × stops b e) ⊎ (((x : X) × is k x × refuses b x e c) ⊎ ((d : B) × (x : X) × is k x × accepts b x d × FailsAtConstraint d ks e c))
 
   -- The answer of an evaluation that asserts these constraints, from the state before to the one
   -- after.
   abbrev pub Evaluates : B → List C → Result (Unit {0}) AirError → B → Type 0
-  Evaluates b ks result c = MatchResult result (λ _. Asserts accepts is b ks c) (λ e. Fails b ks e c)
+  Evaluates b ks result c = MatchResult result (λ _. Asserts accepts is b ks c) (λ e. FailsAtConstraint b ks e c)
 
 module _ {B F K X : Type 0} (members : BuilderView B F K X) where
   -- An expression of a builder means a constraint, as above.

@@ -11,7 +11,7 @@ use Rattle.lookup_generation.proofs.MadeRows.{plain_answer}
 use Rattle.lookup_generation.proofs.RangeFaults.{faults_of_all}
 use Rattle.lookup_generation.proofs.RangeLaws.{cells_alone, range_shifted}
 use Rattle.lookup_generation.proofs.RangeLists.{joined_parts}
-use Rattle.lookup_generation.specs.Ranges.{AllRowsAreWhole, AnswersRows, NeighboursJoin, RangesJoin, faults_between, joined_rows, shifted, terminal_if_any}
+use Rattle.lookup_generation.specs.Ranges.{AllRowsAreWhole, AnswersRows, NeighboursJoin, RangesJoin, faults_between, joined_rows, shifted_matrix, terminal_if_any}
 use Rattle.lookup_model.proofs.Lookups.SentRows.{length-sent_rows, length-sent_rows-at}
 use Rattle.lookup_model.proofs.Lookups.Terminals.{plain_terminal-sum}
 use Rattle.lookup_model.proofs.SumLaws.{sum_in-append}
@@ -58,7 +58,7 @@ module _ {F K : Type 0} {E : Extension F K} (laws : IsLawful E) (denominator : K
 
   -- the cells of rows in two parts
   cells_joined : (rows : List (List (Sent F))) (m a : ℕ) → ((r : ℕ) → r < length rows → length (get_or rows r []) ≡ m) → a ≤ length rows
-      → plain_cells E denominator rows ≡ plain_cells E denominator (take a rows) ++ (shifted E.ring (plain_terminal E denominator (take a rows)) (record { values = plain_cells E denominator (drop a rows); width = m + 1 })).values
+      → plain_cells E denominator rows ≡ plain_cells E denominator (take a rows) ++ (shifted_matrix E.ring (plain_terminal E denominator (take a rows)) (record { values = plain_cells E denominator (drop a rows); width = m + 1 })).values
   cells_joined rows m a wide within =
       let all = plain_row E denominator rows in
       let n = length rows - a in
@@ -69,7 +69,7 @@ module _ {F K : Type 0} {E : Extension F K} (laws : IsLawful E) (denominator : K
       ∙ ap (λ t. t ++ flat_map all (range_with_len (0 + a) n)) (cells_alone laws denominator rows a (flat_map all (range_with_len 0 a)) (plain_accumulator E denominator rows a) within (record { cells_are = refl; accumulator_is = refl }))
       ∙ ap (λ t. plain_cells E denominator (take a rows) ++ t)
       (ap (λ b. flat_map all (range_with_len b n)) (omega arith) ∙ range_shifted laws denominator rows m wide a (length rows) within (omega arith)
-      ∙ (λ i. (shifted E.ring (sym (plain_terminal-sum laws denominator (take a rows)) i) (record { values = plain_cells E denominator (rest i); width = m + 1 })).values))
+      ∙ (λ i. (shifted_matrix E.ring (sym (plain_terminal-sum laws denominator (take a rows)) i) (record { values = plain_cells E denominator (rest i); width = m + 1 })).values))
 
   -- the faults of a range in two parts
   faults_joined : (rows : List (List (Sent F))) (first middle end : ℕ) → first ≤ middle → middle ≤ end → end ≤ length rows
@@ -106,9 +106,9 @@ module _ {F K : Type 0} {E : Extension F K} (laws : IsLawful E) (traces : AirTra
       ∙ length-sent_rows-at E.base E.base_eq traces lookups (first + r) (omega (arith, lt, many, from, to, within)) in
       let front = range_front rows first middle end from to in
       let back = range_back rows first middle end from to in
-      let cells : plain_cells E d range ≡ plain_cells E d (slice_range rows first middle) ++ (shifted E.ring (plain_terminal E d (slice_range rows first middle)) (record { values = plain_cells E d (slice_range rows middle end); width = length lookups + 1 })).values =
+      let cells : plain_cells E d range ≡ plain_cells E d (slice_range rows first middle) ++ (shifted_matrix E.ring (plain_terminal E d (slice_range rows first middle)) (record { values = plain_cells E d (slice_range rows middle end); width = length lookups + 1 })).values =
       cells_joined laws d range (length lookups) (middle - first) wide (omega (arith, many, to))
-      ∙ (λ i. plain_cells E d (front i) ++ (shifted E.ring (plain_terminal E d (front i)) (record { values = plain_cells E d (back i); width = length lookups + 1 })).values) in (
+      ∙ (λ i. plain_cells E d (front i) ++ (shifted_matrix E.ring (plain_terminal E d (front i)) (record { values = plain_cells E d (back i); width = length lookups + 1 })).values) in (
         (λ i. joined_rows E.ring (one.0 i) (one.1 i) (other.0 i)) ∙ (λ i. record { values = sym cells i; width = length lookups + 1 }),
         (λ i. E.ring.add (one.1 i) (other.1 i)) ∙ sym (terminal_joined laws d (slice_range rows first middle) (slice_range rows middle end)) ∙ ap (plain_terminal E d) (sym (range_parts rows first middle end from to)),
         faults_joined laws d rows first middle end from to (omega (arith, high, within)) ∙ (λ i. one.2 i ++ other.2 i),

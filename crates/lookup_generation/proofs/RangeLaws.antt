@@ -11,7 +11,7 @@ use Rattle.lists.proofs.Parts.{length_rows, row_of_parts, same_parts}
 use Rattle.lookup_generation.proofs.ProgressLaws.{HasCells-more, row_fractions}
 use Rattle.lookup_generation.proofs.RangeFaults.{none_joined}
 use Rattle.lookup_generation.proofs.RangeLists.{joined_parts, later_parts}
-use Rattle.lookup_generation.specs.Ranges.{faults_between, shifted, shifted_row}
+use Rattle.lookup_generation.specs.Ranges.{faults_between, shifted_matrix, shifted_row}
 use Rattle.lookup_generation.specs.internal.Progress.{HasCells, HasRows}
 use Rattle.lookup_model.proofs.Lookups.PlainResults.{height_of}
 use Rattle.lookup_model.proofs.Lookups.Terminals.{plain_terminal-sum}
@@ -74,7 +74,7 @@ module _ {F K : Type 0} {E : Extension F K} (laws : IsLawful E) (denominator : K
 
 -- a matrix that is made row by row, shifted
 shifted_parts : {K : Type 0} (S : Ring K) (offset : K) (f : ℕ → List K) (n m : ℕ) → ((r : ℕ) → r < n → length (f r) ≡ m + 1)
-    → (shifted S offset (record { values = flat_map f (range_with_len 0 n); width = m + 1 })).values ≡ flat_map (λ r. shifted_row S offset (f r)) (range_with_len 0 n)
+    → (shifted_matrix S offset (record { values = flat_map f (range_with_len 0 n); width = m + 1 })).values ≡ flat_map (λ r. shifted_row S offset (f r)) (range_with_len 0 n)
 shifted_parts S offset f n m wide =
     let values = flat_map f (range_with_len 0 n) in
     let matrix : Matrix _ = record { values = values; width = m + 1 } in
@@ -107,7 +107,7 @@ module _ {F K : Type 0} {E : Extension F K} (laws : IsLawful E) (denominator : K
       omega (arith, length-map (get_or part k []) (plain_fraction E denominator), here)
 
   -- the rows of a range are those of the range alone, shifted by the accumulator of the first one
-  pub range_shifted : flat_map (plain_row E denominator rows) (range_with_len first n) ≡ (shifted E.ring (plain_accumulator E denominator rows first) (record { values = plain_cells E denominator part; width = m + 1 })).values
+  pub range_shifted : flat_map (plain_row E denominator rows) (range_with_len first n) ≡ (shifted_matrix E.ring (plain_accumulator E denominator rows first) (record { values = plain_cells E denominator part; width = m + 1 })).values
   range_shifted =
       let offset = plain_accumulator E denominator rows first in
       ap (λ a. flat_map (plain_row E denominator rows) (range_with_len a n)) (omega arith)
@@ -115,11 +115,11 @@ module _ {F K : Type 0} {E : Extension F K} (laws : IsLawful E) (denominator : K
       ∙ same_parts (λ k. plain_row E denominator rows (first + k)) (λ k. shifted_row E.ring offset (plain_row E denominator part k)) 0 n (λ k lt.
       row_joined laws denominator rows first k ∙ ap (shifted_row E.ring offset) (sym (plain_row-take laws denominator (drop first rows) n k (omega (arith, lt)))))
       ∙ sym (shifted_parts E.ring offset (plain_row E denominator part) n m wide_row)
-      ∙ ap (λ h. (shifted E.ring offset (record { values = flat_map (plain_row E denominator part) (range_with_len 0 h); width = m + 1 })).values) (sym many_rows)
+      ∙ ap (λ h. (shifted_matrix E.ring offset (record { values = flat_map (plain_row E denominator part) (range_with_len 0 h); width = m + 1 })).values) (sym many_rows)
 
   -- Rows that were made go on by a range that was made alone, shifted by the accumulator so far.
   pub joined : (cells : List K) (accumulator next : K) → HasRows E denominator rows first cells accumulator → faults_between E denominator rows first end ≡ [] → next ≡ E.ring.add accumulator (plain_terminal E denominator (slice_range rows first end))
-      → HasRows E denominator rows end (cells ++ (shifted E.ring accumulator (record { values = plain_cells E denominator (slice_range rows first end); width = m + 1 })).values) next
+      → HasRows E denominator rows end (cells ++ (shifted_matrix E.ring accumulator (record { values = plain_cells E denominator (slice_range rows first end); width = m + 1 })).values) next
   joined cells accumulator next has none next_is =
       let whole : first + (end - first) ≡ end = omega (arith, from) in
       let all = plain_row E denominator rows in
@@ -127,7 +127,7 @@ module _ {F K : Type 0} {E : Extension F K} (laws : IsLawful E) (denominator : K
       record {
         made = record {
           cells_are =
-              (λ i. has.made.cells_are i ++ (shifted E.ring (has.made.accumulator_is i) (record { values = plain_cells E denominator part; width = m + 1 })).values)
+              (λ i. has.made.cells_are i ++ (shifted_matrix E.ring (has.made.accumulator_is i) (record { values = plain_cells E denominator part; width = m + 1 })).values)
               ∙ ap (λ t. flat_map all (range_with_len 0 first) ++ t) (sym range_shifted ∙ ap (λ a. flat_map all (range_with_len a n)) (omega arith))
               ∙ sym (joined_parts all 0 first n)
               ∙ ap (λ k. flat_map all (range_with_len 0 k)) whole;

@@ -44,8 +44,8 @@ shifted_row S offset [] = []
 shifted_row S offset (x ∷ xs) = S.add offset x ∷ xs
 
 -- a matrix, each row of which is shifted
-abbrev pub shifted : {K : Type 0} → Ring K → K → Matrix K → Matrix K
-shifted S offset m = record { values = flat_map (λ r. shifted_row S offset (row m r)) (range_with_len 0 (height m)); width = m.width }
+abbrev pub shifted_matrix : {K : Type 0} → Ring K → K → Matrix K → Matrix K
+shifted_matrix S offset m = record { values = flat_map (λ r. shifted_row S offset (row m r)) (range_with_len 0 (height m)); width = m.width }
 
 -- the ends of ranges of rows that follow one another, from `first` on up to `last`
 abbrev pub AreEnds : ℕ → List ℕ → ℕ → Type 0
@@ -54,7 +54,7 @@ AreEnds first (end ∷ ends) last = (first ≤ end) × AreEnds end ends last
 
 -- the rows of a range, and then those of the next one, each shifted by the sum of the first
 abbrev pub joined_rows : {K : Type 0} → Ring K → Matrix K → K → Matrix K → Matrix K
-joined_rows S m sum n = record { values = m.values ++ (shifted S sum n).values; width = m.width }
+joined_rows S m sum n = record { values = m.values ++ (shifted_matrix S sum n).values; width = m.width }
 
 -- the terminal of an AIR whose fractions have this sum: there is none without lookups
 abbrev pub terminal_if_any : {F K : Type 0} → List (Lookup F) → K → Option (LookupTerminal K)

@@ -3,7 +3,7 @@ ghost use Rattle.std.specs.Prelude.{◌≡◌, ◌+◌, ◌-◌, ◌*◌, ◌<�
 ghost use Rattle.air.specs.Traces.{height_of, layout_of, traces_of};
 ghost use Rattle.lookup_generation.specs.Inverses.{ForExtensions};
 ghost use Rattle.lookup_generation.specs.Progress.{HaveNoTuples, started_chunks};
-ghost use Rattle.lookup_generation.specs.Ranges.{AnswersRows, shifted};
+ghost use Rattle.lookup_generation.specs.Ranges.{AnswersRows, shifted_matrix};
 ghost use Rattle.lookup_generation.specs.internal.Chunks.{HasCellsFrom, HasNoFaultOn, RefusesFaultOn};
 ghost use Rattle.lookup_generation.specs.internal.GenerationInputs.{AreGenerationInputs};
 ghost use Rattle.lookup_model.specs.Records.{LookupsFit};
@@ -111,7 +111,7 @@ pub fn generate_rows<'a, F: Field, EF: ExtensionDomain<F>, I: Inverter<EF>>(
 
 /// Adds `offset` to the accumulator of each row, its first cell.
 pub fn shift<K: Domain>(rows: RowMajorMatrix<K>, offset: K) -> RowMajorMatrix<K>
-    ensures { result ≡ shifted K.ring offset rows }
+    ensures { result ≡ shifted_matrix K.ring offset rows }
 {
     let width = rows.width();
     let height = rows.height();

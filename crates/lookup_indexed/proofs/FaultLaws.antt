@@ -14,12 +14,12 @@ use Rattle.std.proofs.lemmas.List.{get_or_default, length-map, take-map}
 use Rattle.lists.proofs.Images.{mapped_at}
 use Rattle.expressions.specs.Faults.{SplitsAtFault}
 use Rattle.expressions.proofs.FirstFaults.{split_fault}
-use Rattle.lookup_indexed.specs.Faults.{AreDistinctColumns, IsColumnFault, IsFirstColumnFault, Names}
+use Rattle.lookup_indexed.specs.Faults.{AreDistinctColumns, IsColumnFault, IsFirstColumnFault, NamesTable}
 use Rattle.lookup_indexed.specs.declared.error.IndexedLookupError.{IndexedLookupError}
 use Rattle.lookup_indexed.specs.declared.error.IndexedLookupError.TheVariants.{Memory}
 
 -- a refusal made with a copy of the table's name
-pub named : (table : List ℕ) (refusal : String Global → IndexedLookupError) (name : String Global) → string_bytes name ≡ table → (refusal name ≡ Memory) ⊎ Names table refusal (refusal name)
+pub named : (table : List ℕ) (refusal : String Global → IndexedLookupError) (name : String Global) → string_bytes name ≡ table → (refusal name ≡ Memory) ⊎ NamesTable table refusal (refusal name)
 named table refusal name is =
     inr (record { name = name; name_is = is; refusal_is = refl })
 

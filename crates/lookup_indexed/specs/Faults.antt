@@ -13,7 +13,7 @@ use Rattle.lookup_indexed.specs.declared.error.IndexedLookupError.{IndexedLookup
 use Rattle.lookup_indexed.specs.declared.error.IndexedLookupError.TheVariants.{ColumnOutOfRange, RepeatedColumn, EmptyPayload, EmptyTable}
 
 -- a refusal that names a table
-pub record Names (table : List ℕ) (refusal : String Global → IndexedLookupError) (e : IndexedLookupError) : Type 0 where
+pub record NamesTable (table : List ℕ) (refusal : String Global → IndexedLookupError) (e : IndexedLookupError) : Type 0 where
   pub name : String Global
   pub name_is : string_bytes name ≡ table
   pub refusal_is : e ≡ refusal name
@@ -26,8 +26,8 @@ pub record AreDistinctColumns (width : ℕ) (columns : List ℕ) : Type 0 where
 -- a column is out of range; or it is within the window, and was named before
 abbrev pub IsColumnFault : List ℕ → ℕ → IndexedLookupError → List ℕ → ℕ → Type 0
 IsColumnFault table width e before column =
-    ((width ≤ column) × Names table (λ name. ColumnOutOfRange name column width) e)
-    ⊎ ((column < width) × Contains before column × Names table (λ name. RepeatedColumn name column) e)
+    ((width ≤ column) × NamesTable table (λ name. ColumnOutOfRange name column width) e)
+    ⊎ ((column < width) × Contains before column × NamesTable table (λ name. RepeatedColumn name column) e)
 
 -- the fault of the first column that has one
 abbrev pub IsFirstColumnFault : List ℕ → ℕ → List ℕ → IndexedLookupError → Type 0
@@ -44,9 +44,9 @@ pub record IsFaultlessRead (width : ℕ) (r : Read) : Type 0 where
 -- the fault of a reader: of its position, then that it has no column, then that of its first column with a fault
 abbrev pub IsReadFault : ℕ → IndexedLookupError → Read → Type 0
 IsReadFault width e r =
-    ((width ≤ r.position) × Names r.table (λ name. ColumnOutOfRange name r.position width) e)
+    ((width ≤ r.position) × NamesTable r.table (λ name. ColumnOutOfRange name r.position width) e)
     ⊎ ((r.position < width)
-    × (((r.payload ≡ []) × Names r.table EmptyPayload e) ⊎ IsFirstColumnFault r.table width r.payload e))
+    × (((r.payload ≡ []) × NamesTable r.table EmptyPayload e) ⊎ IsFirstColumnFault r.table width r.payload e))
 
 -- the width of the trace that a window shows
 abbrev pub window_width : AirLayout → TraceWindow → ℕ
@@ -61,7 +61,7 @@ pub record IsFaultlessTable (layout : AirLayout) (t : Table) : Type 0 where
 -- the fault of a table: that it has no column, or that of its first column with a fault
 abbrev pub IsTableFault : AirLayout → IndexedLookupError → Table → Type 0
 IsTableFault layout e t =
-    ((t.columns ≡ []) × Names t.name EmptyTable e) ⊎ IsFirstColumnFault t.name (window_width layout t.window) t.columns e
+    ((t.columns ≡ []) × NamesTable t.name EmptyTable e) ⊎ IsFirstColumnFault t.name (window_width layout t.window) t.columns e
 
 -- the fault of the first reader that has one
 abbrev pub IsFirstReadFault : ℕ → List Read → IndexedLookupError → Type 0

@@ -1,7 +1,7 @@
 //! Checks of readers and tables against the widths of a layout.
 ghost use Rattle.std.specs.Prelude.{◌≡◌, ◌⊎◌, All, MatchResult, map};
 ghost use Rattle.lookup_indexed.specs.Declaration.{read_of, declared_table};
-ghost use Rattle.lookup_indexed.specs.Faults.{AreFaultlessDeclarations, IsFaultlessRead, IsFaultlessTable, IsFirstDeclarationFault, IsFirstReadFault, IsFirstTableFault, IsReadFault, IsTableFault, Names, window_width};
+ghost use Rattle.lookup_indexed.specs.Faults.{AreFaultlessDeclarations, IsFaultlessRead, IsFaultlessTable, IsFirstDeclarationFault, IsFirstReadFault, IsFirstTableFault, IsReadFault, IsTableFault, NamesTable, window_width};
 
 use crate::columns::{check_columns, out_of_range};
 use crate::error::IndexedLookupError;
@@ -112,7 +112,7 @@ fn width_of(layout: &AirLayout, window: TraceWindow) -> usize
 /// The refusal of a reader without columns, or out of memory for the table's name.
 fn empty_payload(alloc: Global, table: &str) -> IndexedLookupError
     ensures { (result ≡ IndexedLookupError.Memory)
-        ⊎ Names table.now IndexedLookupError.EmptyPayload result }
+        ⊎ NamesTable table.now IndexedLookupError.EmptyPayload result }
 {
     match String::from_str(alloc, table) {
         Ok(table) => IndexedLookupError::EmptyPayload { table },
@@ -123,7 +123,7 @@ fn empty_payload(alloc: Global, table: &str) -> IndexedLookupError
 /// The refusal of a table without columns, or out of memory for its name.
 fn empty_table(alloc: Global, table: &str) -> IndexedLookupError
     ensures { (result ≡ IndexedLookupError.Memory)
-        ⊎ Names table.now IndexedLookupError.EmptyTable result }
+        ⊎ NamesTable table.now IndexedLookupError.EmptyTable result }
 {
     match String::from_str(alloc, table) {
         Ok(table) => IndexedLookupError::EmptyTable { table },

@@ -1,6 +1,6 @@
 //! The columns of one declaration.
 ghost use Rattle.std.specs.Prelude.{◌≡◌, ◌⊎◌, MatchResult};
-ghost use Rattle.lookup_indexed.specs.Faults.{AreDistinctColumns, IsFirstColumnFault, Names};
+ghost use Rattle.lookup_indexed.specs.Faults.{AreDistinctColumns, IsFirstColumnFault, NamesTable};
 
 use crate::error::IndexedLookupError;
 use std::alloc::Global;
@@ -40,7 +40,7 @@ pub(crate) fn out_of_range(
     width: usize,
 ) -> IndexedLookupError
     ensures { (result ≡ IndexedLookupError.Memory)
-        ⊎ Names table.now (λ name. IndexedLookupError.ColumnOutOfRange name column width) result }
+        ⊎ NamesTable table.now (λ name. IndexedLookupError.ColumnOutOfRange name column width) result }
 {
     match String::from_str(alloc, table) {
         Ok(table) => IndexedLookupError::ColumnOutOfRange {
@@ -55,7 +55,7 @@ pub(crate) fn out_of_range(
 /// The refusal of a column that was named before, or out of memory for the table's name.
 fn repeated_column(alloc: Global, table: &str, column: usize) -> IndexedLookupError
     ensures { (result ≡ IndexedLookupError.Memory)
-        ⊎ Names table.now (λ name. IndexedLookupError.RepeatedColumn name column) result }
+        ⊎ NamesTable table.now (λ name. IndexedLookupError.RepeatedColumn name column) result }
 {
     match String::from_str(alloc, table) {
         Ok(table) => IndexedLookupError::RepeatedColumn { table, column },

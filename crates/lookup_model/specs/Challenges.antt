@@ -34,9 +34,9 @@ abbrev pub table_key_denominator_over : {K : Type 0} → Ring K → ChallengeTab
 table_key_denominator_over S table key = sub_in S (table.prefix key.id) (combined S key.tuple table.beta)
 
 -- a key of the traces, with its tuple in the extension
-abbrev pub lifted : {F K : Type 0} → Extension F K → Key F → Key K
-lifted E key = record { id = key.id; tuple = map E.embed key.tuple }
+abbrev pub lifted_key : {F K : Type 0} → Extension F K → Key F → Key K
+lifted_key E key = record { id = key.id; tuple = map E.embed key.tuple }
 
 -- the denominator of a key of the traces
 abbrev pub table_key_denominator : {F K : Type 0} → Extension F K → ChallengeTable K → Key F → K
-table_key_denominator E table key = table_key_denominator_over E.ring table (lifted E key)
+table_key_denominator E table key = table_key_denominator_over E.ring table (lifted_key E key)

@@ -5,7 +5,7 @@ use Rattle.std.specs.Option.{option_or}
 use Rattle.field.specs.Ring.{Ring}
 use Rattle.field.specs.Extension.{Extension}
 use Rattle.lookup_model.specs.Message.{Key, Message}
-use Rattle.lookup_model.specs.Plain.{counted}
+use Rattle.lookup_model.specs.Plain.{counted_messages}
 use Rattle.lookup_model.specs.Sent.{Sent}
 use Rattle.lookup_model.specs.declared.error.LookupError.{LookupError}
 use Rattle.lookup_model.specs.declared.error.LookupError.TheVariants.{VanishingDenominator, FlagNotBoolean, FlagsNotExclusive}
@@ -33,7 +33,7 @@ flag_fault_of R eq row lookup (Some flags) =
 -- The messages whose denominators count: without flags those of nonzero multiplicity, with flags all
 -- that are sent.
 abbrev pub dividing_messages : {F : Type 0} → Ring F → (F → F → Bool) → Option (List F) → List (Message F) → List (Message F)
-dividing_messages R eq None messages = counted R eq messages
+dividing_messages R eq None messages = counted_messages R eq messages
 dividing_messages R eq (Some _) messages = messages
 
 module _ {F : Type 0} (fault : ℕ → ℕ → Sent F → Option LookupError) where

@@ -14,8 +14,8 @@ abbrev pub trace_messages : {F : Type 0} → List (List (Sent F)) → List (Mess
 trace_messages rows = flat_map (λ row. flat_map (λ sent. sent.messages) row) rows
 
 -- the messages whose multiplicity is not zero
-abbrev pub counted : {F : Type 0} → Ring F → (F → F → Bool) → List (Message F) → List (Message F)
-counted R eq messages = filter (λ m. not (eq m.multiplicity R.zero)) messages
+abbrev pub counted_messages : {F : Type 0} → Ring F → (F → F → Bool) → List (Message F) → List (Message F)
+counted_messages R eq messages = filter (λ m. not (eq m.multiplicity R.zero)) messages
 
 module _ {F K : Type 0} (E : Extension F K) (denominator : Key F → K) where
   -- a multiplicity over the denominator of its key
@@ -29,7 +29,7 @@ module _ {F K : Type 0} (E : Extension F K) (denominator : Key F → K) where
   -- the fraction of a lookup on a row: the sum of the quotients of its messages with nonzero
   -- multiplicity
   abbrev pub plain_fraction : Sent F → K
-  plain_fraction sent = sum_in E.ring (map (λ m. quotient m.multiplicity m.key) (counted E.base E.base_eq sent.messages))
+  plain_fraction sent = sum_in E.ring (map (λ m. quotient m.multiplicity m.key) (counted_messages E.base E.base_eq sent.messages))
 
   -- the accumulator of row r: the sum of all fractions of the rows before it
   abbrev pub plain_accumulator : List (List (Sent F)) → ℕ → K

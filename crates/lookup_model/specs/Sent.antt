@@ -24,14 +24,14 @@ abbrev pub values : {F : Type 0} → Ring F → Window F → List (SymbolicExpre
 values R w es = map (value R w) es
 
 -- the branches whose flag is set
-abbrev pub chosen : {F X : Type 0} → Ring F → (F → F → Bool) → List F → List X → List X
-chosen R eq flags branches = map (λ b. b.1) (filter (λ b. eq b.0 R.one) (zip flags branches))
+abbrev pub chosen_branches : {F X : Type 0} → Ring F → (F → F → Bool) → List F → List X → List X
+chosen_branches R eq flags branches = map (λ b. b.1) (filter (λ b. eq b.0 R.one) (zip flags branches))
 
 -- What a row sends of its branches: all of them without flags, and with flags those whose flag is
 -- set.
 abbrev pub sent : {F : Type 0} → Ring F → (F → F → Bool) → Option (List F) → List (Message F) → Sent F
 sent R eq None branches = record { flags = None; messages = branches }
-sent R eq (Some flags) branches = record { flags = Some flags; messages = chosen R eq flags branches }
+sent R eq (Some flags) branches = record { flags = Some flags; messages = chosen_branches R eq flags branches }
 
 module _ {F : Type 0} (R : Ring F) where
   -- a tuple with its multiplicity at a window, under an id

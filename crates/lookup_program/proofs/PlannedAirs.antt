@@ -16,7 +16,7 @@ use Rattle.lookup.specs.Lookups.{lookups_of}
 use Rattle.lookup.specs.declared.lookups.Lookups.{Lookups}
 use Rattle.batch.specs.Checks.{IsPlanRefusal}
 use Rattle.batch.specs.Order.{AreInOrder, same_bus}
-use Rattle.batch.specs.PlanFacts.{AreNumbered, assigned}
+use Rattle.batch.specs.PlanFacts.{AreNumbered, lookups_with_ids}
 use Rattle.batch.specs.Traces.{FitsAt, batch_over}
 use Rattle.batch.specs.declared.error.BatchError.{BatchError}
 use Rattle.batch.specs.declared.error.BatchError.TheVariants.{Lookup as OfLookup}
@@ -102,7 +102,7 @@ module _ {F : Type 0} (R : Ring F) (eq : F → F → Bool) (input : Matrix F) wh
       let part = one_item length given (length (lookups_of t.lookups)) numbered.as_many in
       let id = one_of part.0 (part.2 ∙ ap length l.1) in
       let given_is : given ≡ (id.0 ∷ []) ∷ [] = part.1 ∙ ap (λ xs. xs ∷ []) id.1 in
-      let order : AreInOrder ((id.0, l.0) ∷ []) m = subst (λ all. AreInOrder all m) (ap (λ is. assigned is (t.lookups ∷ [])) given_is ∙ ap (λ ls. zip (id.0 ∷ []) ls ++ []) l.1) numbered.in_order in
+      let order : AreInOrder ((id.0, l.0) ∷ []) m = subst (λ all. AreInOrder all m) (ap (λ is. lookups_with_ids is (t.lookups ∷ [])) given_is ∙ ap (λ ls. zip (id.0 ∷ []) ls ++ []) l.1) numbered.in_order in
       let zeros = one_id id.0 m l.0 order in
       (given_is ∙ ap (λ i. (i ∷ []) ∷ []) zeros.0, zeros.1)
 
@@ -116,7 +116,7 @@ module _ {F : Type 0} (R : Ring F) (eq : F → F → Bool) (input : Matrix F) wh
       let j = one_of parts.1 (parts.4 ∙ ap length k.1) in
       let given_is : given ≡ (i.0 ∷ []) ∷ (j.0 ∷ []) ∷ [] = parts.2 ∙ ap₂ (λ xs ys. xs ∷ ys ∷ []) i.1 j.1 in
       let order : AreInOrder ((i.0, l.0) ∷ (j.0, k.0) ∷ []) m =
-      subst (λ all. AreInOrder all m) (ap (λ is. assigned is (t.lookups ∷ u.lookups ∷ [])) given_is ∙ ap₂ (λ ls ks. zip (i.0 ∷ []) ls ++ (zip (j.0 ∷ []) ks ++ [])) l.1 k.1) numbered.in_order in
+      subst (λ all. AreInOrder all m) (ap (λ is. lookups_with_ids is (t.lookups ∷ u.lookups ∷ [])) given_is ∙ ap₂ (λ ls ks. zip (i.0 ∷ []) ls ++ (zip (j.0 ∷ []) ks ++ [])) l.1 k.1) numbered.in_order in
       let shared : IsTrue (same_bus (bus_of l.0.kind) (bus_of k.0.kind)) = subst₂ (λ a b. IsTrue (same_bus a b)) (sym (ap (λ p. p.0) l.2)) (sym (ap (λ p. p.0) k.2)) refl in
       let zeros = two_ids i.0 j.0 m l.0 k.0 order shared in
       (given_is ∙ ap₂ (λ a b. (a ∷ []) ∷ (b ∷ []) ∷ []) zeros.0 zeros.1, zeros.2)

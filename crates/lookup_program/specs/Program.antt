@@ -149,8 +149,8 @@ WritesInOrder contents report output output_after errors errors_after =
 -- 0 if the terminals cancel and 1 if they do not, and after it the line of a mismatch to the errors;
 -- or the status is 2, and something may be left unwritten. A refusal has status 2 and leaves the
 -- output as it was.
-abbrev pub Ends : {W E : Type 0} → (W → Option (List ℕ)) → (E → Option (List ℕ)) → Result Report RunError → ℕ → W → W → E → E → Type 0
-Ends contents error_contents answer status output output_after errors errors_after = MatchResult answer
+abbrev pub EndsWithReport : {W E : Type 0} → (W → Option (List ℕ)) → (E → Option (List ℕ)) → Result Report RunError → ℕ → W → W → E → E → Type 0
+EndsWithReport contents error_contents answer status output output_after errors errors_after = MatchResult answer
     (λ report. (((status ≡ cond report.balanced 0 1) × Appends (contents output) (contents output_after) (string_bytes report.text)
     × HasMismatch error_contents report.mismatch errors errors_after) ⊎ (status ≡ 2))
     × WritesInOrder contents report output output_after errors errors_after)

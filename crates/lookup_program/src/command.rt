@@ -2,7 +2,7 @@
 ghost use Rattle.std.specs.Prelude.{◌≡◌, ◌⊎◌, ℕ, List, IfSome, MatchResult, OnOk, Result, cond, map, string_bytes};
 ghost use Rattle.std.specs.Io.KnownBytes.{Appends};
 ghost use Rattle.std.specs.Process.{exit_status};
-ghost use Rattle.lookup_program.specs.Program.{Answers, AnswersOver, Ends, HasMismatch, IsBadChallenge, WritesInOrder};
+ghost use Rattle.lookup_program.specs.Program.{Answers, AnswersOver, EndsWithReport, HasMismatch, IsBadChallenge, WritesInOrder};
 ghost use Rattle.field_words.specs.Fields.{run_fields};
 
 use crate::error::RunError;
@@ -36,7 +36,7 @@ pub fn run<R: Read, W: Write, E: Write>(
         × Answers ⟦<F7 as Written<F7>>⟧.fields ⟦<BabyBear4 as Written<BabyBear>>⟧.fields
         ⟦<KoalaBear4 as Written<KoalaBear>>⟧.fields
         ⟦<Goldilocks2 as Written<Goldilocks>>⟧.fields (map string_bytes words.now) bytes answer
-        × Ends W.contents E.contents answer (exit_status result) output.old output.new errors.old
+        × EndsWithReport W.contents E.contents answer (exit_status result) output.old output.new errors.old
         errors.new }
 {
     match answer(alloc, words, input) {

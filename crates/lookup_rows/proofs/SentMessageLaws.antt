@@ -11,7 +11,7 @@ use Rattle.air.specs.Traces.{AirTraces, window_of}
 use Rattle.lookup_model.specs.Fault.{are_boolean, flag_fault_of, set_indices}
 use Rattle.lookup_model.specs.FlagFault.{row_flag_faults, sent_flag_fault, trace_flag_faults}
 use Rattle.lookup_model.specs.Message.{Message}
-use Rattle.lookup_model.specs.Sent.{Sent, chosen}
+use Rattle.lookup_model.specs.Sent.{Sent, chosen_branches}
 use Rattle.lookup_model.specs.Trace.{sent_row_under, sent_rows_under}
 use Rattle.lookup_model.specs.declared.error.LookupError.{LookupError}
 use Rattle.lookup_model.specs.declared.types.Lookup.{Lookup}
@@ -23,14 +23,14 @@ use Rattle.lookup_rows.specs.declared.messages.SentMessage.{SentMessage}
 
 module _ {F : Type 0} (R : Ring F) (eq : F → F → Bool) (row column : ℕ) (branches : List (Message F)) (flags : List F) (boolean : are_boolean R eq flags ≡ true) where
   -- flags of which none is set choose nothing
-  pub no_flag : set_indices R eq 0 flags ≡ [] → (chosen R eq flags branches ≡ []) × (flag_fault_of R eq row column (Some flags) ≡ None)
+  pub no_flag : set_indices R eq 0 flags ≡ [] → (chosen_branches R eq flags branches ≡ []) × (flag_fault_of R eq row column (Some flags) ≡ None)
   no_flag none = (
     chosen_none R eq 0 flags branches none,
     flags_faultless R eq row column flags boolean (omega (arith, ap length none)),
   )
 
   -- one set flag chooses its branch
-  pub one_flag : (index : ℕ) (m : Message F) → set_indices R eq 0 flags ≡ index ∷ [] → index < length branches → m ≡ get_or branches index m → (chosen R eq flags branches ≡ m ∷ []) × (flag_fault_of R eq row column (Some flags) ≡ None)
+  pub one_flag : (index : ℕ) (m : Message F) → set_indices R eq 0 flags ≡ index ∷ [] → index < length branches → m ≡ get_or branches index m → (chosen_branches R eq flags branches ≡ m ∷ []) × (flag_fault_of R eq row column (Some flags) ≡ None)
   one_flag index m one within is = (
     chosen_one R eq 0 index flags branches m (one ∙ ap (λ p. p ∷ []) (omega arith)) within is,
     flags_faultless R eq row column flags boolean (omega (arith, ap length one)),

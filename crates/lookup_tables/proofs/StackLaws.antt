@@ -9,7 +9,7 @@ use Rattle.field.specs.Residue.{Residue}
 use Rattle.lookup_tables.specs.Nodes.{NodesAreTrees, IsFirstBadNode, IsShallowForNodes, node, nodes_of}
 use Rattle.lookup_tables.specs.declared.nodes.Node.{Node}
 use Rattle.lookup_tables.specs.declared.part.Part.{Part}
-use Rattle.lookup_tables.specs.internal.Stack.{has_one, has_room, has_two, part_depths, part_depths_on, written}
+use Rattle.lookup_tables.specs.internal.Stack.{has_one, has_room, has_two, part_depths, part_depths_on, nodes_on_stack}
 use Rattle.lookup_tables.proofs.NodeLaws.{depths_on, none_begins}
 
 part_depths_on-push : {F : Type 0} (ds : List ℕ) (ps : List (Part F)) (p : Part F) → part_depths_on ds (ps ++ p ∷ []) ≡ p.depth ∷ part_depths_on ds ps
@@ -41,7 +41,7 @@ module _ {p : ℕ} where
   abbrev pub trees : List (Part (Residue p)) → List (Tree (Residue p))
   trees parts = map (λ part. tree_of part.expression) parts
 
-  written_trees : (ps : List (Part (Residue p))) → written ps ≡ flat_map nodes_of (trees ps)
+  written_trees : (ps : List (Part (Residue p))) → nodes_on_stack ps ≡ flat_map nodes_of (trees ps)
   written_trees [] = refl
   written_trees (part ∷ ps) = ap (λ ns. nodes_of (tree_of part.expression) ++ ns) (written_trees ps)
 
@@ -54,11 +54,11 @@ module _ {p : ℕ} where
   depths_are ds [] = refl
   depths_are ds (part ∷ ps) = ap (λ d. depths_on p (d ∷ ds) (trees ps)) (sym part.measured) ∙ depths_are (part.depth ∷ ds) ps
 
-  pub are_trees : (ps : List (Part (Residue p))) (nodes : List Node) → written ps ≡ nodes → NodesAreTrees (trees ps) nodes
+  pub are_trees : (ps : List (Part (Residue p))) (nodes : List Node) → nodes_on_stack ps ≡ nodes → NodesAreTrees (trees ps) nodes
   are_trees ps nodes e = record { same = sym (written_trees ps) ∙ e; shallow = shallow_trees ps }
 
   -- A node for which the stack has no room is the first bad one.
-  pub first_bad : (ps : List (Part (Residue p))) (nodes : List Node) (i : ℕ) → i < length nodes → written ps ≡ take i nodes → has_room p (part_depths ps) (get_or nodes i (node 0 0 0)) ≡ false → IsFirstBadNode p nodes i
+  pub first_bad : (ps : List (Part (Residue p))) (nodes : List Node) (i : ℕ) → i < length nodes → nodes_on_stack ps ≡ take i nodes → has_room p (part_depths ps) (get_or nodes i (node 0 0 0)) ≡ false → IsFirstBadNode p nodes i
   first_bad ps nodes i there so_far none =
       let n = get_or nodes i (node 0 0 0) in
       let so_far_trees : take i nodes ≡ flat_map nodes_of (trees ps) = sym so_far ∙ written_trees ps in record {

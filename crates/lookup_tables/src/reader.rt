@@ -4,7 +4,7 @@ ghost use Rattle.expressions.specs.Tree.{tree_of};
 ghost use Rattle.lookup_tables.specs.Nodes.{NodesAreTrees, IsFirstBadNode};
 ghost use Rattle.lookup_tables.specs.declared.nodes.NodeFault.TheVariants.{Memory, Bad};
 ghost use Rattle.lookup_tables.specs.internal.Nodes.{is_negation, is_operation};
-ghost use Rattle.lookup_tables.specs.internal.Stack.{has_one, has_room, has_two, part_depths, written};
+ghost use Rattle.lookup_tables.specs.internal.Stack.{has_one, has_room, has_two, part_depths, nodes_on_stack};
 
 use crate::nodes::{Node, NodeFault, is_leaf, is_negation, is_operation, joined, leaf_of};
 use crate::part::Part;
@@ -22,7 +22,7 @@ fn push_node<const P: u32, K: MontyParameters<P>>(
     node: &Node,
 ) -> Result<(), NodeFault>
     ensures { MatchResult result
-        (λ _. written stack.new.items ≡ written stack.old.items ++ node.now ∷ [])
+        (λ _. nodes_on_stack stack.new.items ≡ nodes_on_stack stack.old.items ++ node.now ∷ [])
         (λ e. (e ≡ Memory) ⊎ (has_room P (part_depths stack.old.items) node.now ≡ false)) }
 {
     if is_leaf::<P>(node) {
@@ -48,7 +48,7 @@ fn push_negation<const P: u32, K: MontyParameters<P>>(
 ) -> Result<(), NodeFault>
     requires { is_negation node.now ≡ true }
     ensures { MatchResult result
-        (λ _. written stack.new.items ≡ written stack.old.items ++ node.now ∷ [])
+        (λ _. nodes_on_stack stack.new.items ≡ nodes_on_stack stack.old.items ++ node.now ∷ [])
         (λ e. (e ≡ Memory) ⊎ (has_one (part_depths stack.old.items) ≡ false)) }
 {
     match stack.pop() {
@@ -74,7 +74,7 @@ fn push_operation<const P: u32, K: MontyParameters<P>>(
 ) -> Result<(), NodeFault>
     requires { is_operation node.now ≡ true }
     ensures { MatchResult result
-        (λ _. written stack.new.items ≡ written stack.old.items ++ node.now ∷ [])
+        (λ _. nodes_on_stack stack.new.items ≡ nodes_on_stack stack.old.items ++ node.now ∷ [])
         (λ e. (e ≡ Memory) ⊎ (has_two (part_depths stack.old.items) ≡ false)) }
 {
     let Some(right) = stack.pop() else {
@@ -120,7 +120,7 @@ fn read_parts<const P: u32, K: MontyParameters<P>>(
     nodes: &[Node],
 ) -> Result<Vec<Part<MontyField31<P, K>>>, NodeFault>
     ensures { MatchResult result
-        (λ v. written v.items ≡ nodes.now)
+        (λ v. nodes_on_stack v.items ≡ nodes.now)
         (λ e. (e ≡ Memory) ⊎ (i : ℕ) × (e ≡ Bad i) × IsFirstBadNode P nodes.now i) }
 {
     let mut stack = Vec::new(alloc);

@@ -11,7 +11,7 @@ use Rattle.lookup_text.specs.declared.token.Word.{Word}
 use Rattle.lookup_text.specs.declared.token.Word.TheVariants as words
 use Rattle.lookup_text.specs.Faults.{◌>>=◌}
 use Rattle.lookup_text.specs.Formulas.{Formula, name, next, number, negative, sum, difference, product, power}
-use Rattle.lookup_text.specs.Fronts.{Read, named_at, needed, number_at, or_refused, refused, taken}
+use Rattle.lookup_text.specs.Fronts.{Read, named_at, rest_after_sign, number_at, value_or_fault, fault_at_front, rest_if_sign}
 use Rattle.lookup_text.specs.Grammar.{Level, Says, sums, products, factors, atoms, says_name, says_number, says_next, says_inner, says_atom, says_power, says_negative, says_factor, says_product, says_one, says_sum, says_difference}
 use Rattle.lookup_text.specs.Reading.{Part, a_factor, a_product, a_sum, an_atom, more_product, more_sum, next_at, next_in, power_at, power_in, reads}
 use Rattle.lookup_text.specs.Tokens.{Token}
@@ -43,7 +43,7 @@ done_is {A} x y ts us e =
     (ap (λ (p : A × List Token). p.0) pair, ap (λ (p : A × List Token). p.1) pair)
 
 -- a sign that was taken stood at the front
-taken_stands : (k : ℕ) (ts us : List Token) → taken k ts ≡ Some us → (s : Span) × (ts ≡ (Sign k, s) ∷ us)
+taken_stands : (k : ℕ) (ts us : List Token) → rest_if_sign k ts ≡ Some us → (s : Span) × (ts ≡ (Sign k, s) ∷ us)
 taken_stands k [] us e = absurd cc
 taken_stands k ((Name w, s) ∷ ts) us e = absurd cc
 taken_stands k ((Number n, s) ∷ ts) us e = absurd cc
@@ -59,13 +59,13 @@ taken_stands k ((Sign b, s) ∷ ts) us e =
       | inr w ↦ (let none : cond (b == k) (Some ts) None ≡ None = ap (λ t. cond t (Some ts) None) w.0 in absurd (no_some us (sym none ∙ e)))
     ]
 
-needed_by : (k : ℕ) (ts us : List Token) (o : Option (List Token)) → taken k ts ≡ o → or_refused (whys.Sign k) ts o ≡ Ok us → (s : Span) × (ts ≡ (Sign k, s) ∷ us)
+needed_by : (k : ℕ) (ts us : List Token) (o : Option (List Token)) → rest_if_sign k ts ≡ o → value_or_fault (whys.Sign k) ts o ≡ Ok us → (s : Span) × (ts ≡ (Sign k, s) ∷ us)
 needed_by k ts us None is e = absurd cc
 needed_by k ts us (Some vs) is e = let same : vs ≡ us = cc in taken_stands k ts us (is ∙ ap (λ (ws : List Token). Some ws) same)
 
 -- a sign that has to be there stands there
-needed_stands : (k : ℕ) (ts us : List Token) → needed k ts ≡ Ok us → (s : Span) × (ts ≡ (Sign k, s) ∷ us)
-needed_stands k ts us e = needed_by k ts us (taken k ts) refl e
+needed_stands : (k : ℕ) (ts us : List Token) → rest_after_sign k ts ≡ Ok us → (s : Span) × (ts ≡ (Sign k, s) ∷ us)
+needed_stands k ts us e = needed_by k ts us (rest_if_sign k ts) refl e
 
 -- the level that a part is of, and what was said before it
 abbrev Found : Part → List Token → Formula → List Token → Type 0
@@ -91,7 +91,7 @@ whole level below lift ts mid rest g f first more =
 
 -- one more operator of a sum or a product, and what goes on with it
 further : (level below : Level) (k : ℕ) (make : Formula → Formula → Formula) (says : (s : Span) (xs ys : List Token) (f g : Formula) → Says level xs f → Says below ys g → Says level (xs ++ (Sign k, s) ∷ ys) (make f g)) (ts us mid rest : List Token) (g h f : Formula)
-    → taken k ts ≡ Some us → (front : List Token) × (us ≡ front ++ mid) × Says below front h → ((before : List Token) → Says level before (make g h) → (front : List Token) × (mid ≡ front ++ rest) × Says level (before ++ front) f)
+    → rest_if_sign k ts ≡ Some us → (front : List Token) × (us ≡ front ++ mid) × Says below front h → ((before : List Token) → Says level before (make g h) → (front : List Token) × (mid ≡ front ++ rest) × Says level (before ++ front) f)
     → (before : List Token) → Says level before g → (front : List Token) × (ts ≡ front ++ rest) × Says level (before ++ front) f
 further level below k make says ts us mid rest g h f is second more before said =
     let st = taken_stands k ts us is in
@@ -134,11 +134,11 @@ exponent_by n d x y false is e = (grind (arith, nat_tests), grind (arith, nat_te
 exponent : {A : Type 0} (n : ℕ) (d : Fault) (x y : A) → cond ((n == 0) || nat_lt 64 n) (Err d) (Ok x) ≡ Ok y → (0 < n) × (n ≤ 64) × (x ≡ y)
 exponent n d x y e = exponent_by n d x y ((n == 0) || nat_lt 64 n) refl e
 
-power_by : (ts rest : List Token) (g f : Formula) (o : Option (List Token)) → taken 94 ts ≡ o → power_in g ts o ≡ Ok (f, rest) → (before : List Token) → Says atoms before g → (front : List Token) × (ts ≡ front ++ rest) × Says factors (before ++ front) f
+power_by : (ts rest : List Token) (g f : Formula) (o : Option (List Token)) → rest_if_sign 94 ts ≡ o → power_in g ts o ≡ Ok (f, rest) → (before : List Token) → Says atoms before g → (front : List Token) × (ts ≡ front ++ rest) × Says factors (before ++ front) f
 power_by ts rest g f None is e before said = ended factors ts rest g f e before (says_atom before g said)
 power_by ts rest g f (Some us) is e before said =
     let st = taken_stands 94 ts us is in
-    let b = bind_ok (number_at us) (λ x. cond ((x.0 == 0) || nat_lt 64 x.0) (refused whys.Exponent us) (Ok (power g x.0, x.1))) (f, rest) e in
+    let b = bind_ok (number_at us) (λ x. cond ((x.0 == 0) || nat_lt 64 x.0) (fault_at_front whys.Exponent us) (Ok (power g x.0, x.1))) (f, rest) e in
     let n = b.0.0 in
     let num = number_stands us b.0.1 n b.1 in
     let w = exponent n _ (power g n, b.0.1) (f, rest) b.2 in
@@ -152,20 +152,20 @@ power_by ts rest g f (Some us) is e before said =
 -- an atom with what stands behind a ^
 power_found : (ts rest : List Token) (g f : Formula) → power_at g ts ≡ Ok (f, rest) → (before : List Token) → Says atoms before g → (front : List Token) × (ts ≡ front ++ rest) × Says factors (before ++ front) f
 unfolding power_at
-power_found ts rest g f e before said = power_by ts rest g f (taken 94 ts) refl e before said
+power_found ts rest g f e before said = power_by ts rest g f (rest_if_sign 94 ts) refl e before said
 
 plain : (w : Word) (s : Span) (ts rest : List Token) (f : Formula) → done (name s) ts ≡ done f rest → (front : List Token) × ((Name w, s) ∷ ts ≡ front ++ rest) × Says atoms front f
 plain w s ts rest f e =
     let pair = done_is (name s) f ts rest e in
     ((Name w, s) ∷ [], ap (λ (xs : List Token). (Name w, s) ∷ xs) pair.1, subst (Says atoms ((Name w, s) ∷ [])) pair.0 (says_name w s))
 
-next_by : (s : Span) (ts rest : List Token) (f : Formula) (o : Option (List Token)) → taken 40 ts ≡ o → next_in s ts o ≡ Ok (f, rest) → (front : List Token) × ((Name words.Next, s) ∷ ts ≡ front ++ rest) × Says atoms front f
+next_by : (s : Span) (ts rest : List Token) (f : Formula) (o : Option (List Token)) → rest_if_sign 40 ts ≡ o → next_in s ts o ≡ Ok (f, rest) → (front : List Token) × ((Name words.Next, s) ∷ ts ≡ front ++ rest) × Says atoms front f
 next_by s ts rest f None is e = plain words.Next s ts rest f e
 next_by s ts rest f (Some us) is e =
     let open_at = taken_stands 40 ts us is in
-    let b = bind_ok (named_at whys.Column us) (λ x. needed 41 x.1 >>= λ r. Ok (next x.0, r)) (f, rest) e in
+    let b = bind_ok (named_at whys.Column us) (λ x. rest_after_sign 41 x.1 >>= λ r. Ok (next x.0, r)) (f, rest) e in
     let column = named_stands whys.Column us b.0.1 b.0.0 b.1 in
-    let d = bind_ok (needed 41 b.0.1) (λ r. Ok (next b.0.0, r)) (f, rest) b.2 in
+    let d = bind_ok (rest_after_sign 41 b.0.1) (λ r. Ok (next b.0.0, r)) (f, rest) b.2 in
     let close = needed_stands 41 b.0.1 d.0 d.1 in
     let same : next b.0.0 ≡ f = ap (λ (x : Formula × List Token). x.0) (ok_is (next b.0.0, d.0) (f, rest) d.2) in
     let over : d.0 ≡ rest = ap (λ (x : Formula × List Token). x.1) (ok_is (next b.0.0, d.0) (f, rest) d.2) in
@@ -178,7 +178,7 @@ next_by s ts rest f (Some us) is e =
 -- a name, or that of the next row
 name_found : (w : Word) (s : Span) (ts rest : List Token) (f : Formula) → next_at w s ts ≡ Ok (f, rest) → (front : List Token) × ((Name w, s) ∷ ts ≡ front ++ rest) × Says atoms front f
 unfolding next_at
-name_found words.Next s ts rest f e = next_by s ts rest f (taken 40 ts) refl e
+name_found words.Next s ts rest f e = next_by s ts rest f (rest_if_sign 40 ts) refl e
 name_found w s ts rest f e = plain w s ts rest f e
 
 -- what `reads` gives within so many layers is said by its tokens
@@ -217,12 +217,12 @@ factor_in n ts o =
 abbrev inner_in : ℕ → List Token → Option (List Token) → Read Formula
 inner_in n ts o =
     elim o [
-      | Some us ↦ reads n a_sum us >>= λ x. needed 41 x.1 >>= λ r. Ok (x.0, r)
-      | None ↦ refused whys.Expression ts
+      | Some us ↦ reads n a_sum us >>= λ x. rest_after_sign 41 x.1 >>= λ r. Ok (x.0, r)
+      | None ↦ fault_at_front whys.Expression ts
     ]
 
 -- one more term, or the end of a sum
-sum_by : (n : ℕ) (ih : AllFound n) (g : Formula) (ts rest : List Token) (f : Formula) (plus minus : Option (List Token)) → taken 43 ts ≡ plus → taken 45 ts ≡ minus → sum_in n g ts plus minus ≡ Ok (f, rest) → Found (more_sum g) ts f rest
+sum_by : (n : ℕ) (ih : AllFound n) (g : Formula) (ts rest : List Token) (f : Formula) (plus minus : Option (List Token)) → rest_if_sign 43 ts ≡ plus → rest_if_sign 45 ts ≡ minus → sum_in n g ts plus minus ≡ Ok (f, rest) → Found (more_sum g) ts f rest
 sum_by n ih g ts rest f (Some us) minus is is_minus e =
     let b = bind_ok (reads n a_product us) (λ x. reads n (more_sum (sum g x.0)) x.1) (f, rest) e in
     further sums products 43 sum says_sum ts us b.0.1 rest g b.0.0 f is (ih a_product us b.0.1 b.0.0 b.1) (ih (more_sum (sum g b.0.0)) b.0.1 rest f b.2)
@@ -232,14 +232,14 @@ sum_by n ih g ts rest f None (Some us) is is_minus e =
 sum_by n ih g ts rest f None None is is_minus e = ended sums ts rest g f e
 
 -- one more factor, or the end of a product
-product_by : (n : ℕ) (ih : AllFound n) (g : Formula) (ts rest : List Token) (f : Formula) (o : Option (List Token)) → taken 42 ts ≡ o → product_in n g ts o ≡ Ok (f, rest) → Found (more_product g) ts f rest
+product_by : (n : ℕ) (ih : AllFound n) (g : Formula) (ts rest : List Token) (f : Formula) (o : Option (List Token)) → rest_if_sign 42 ts ≡ o → product_in n g ts o ≡ Ok (f, rest) → Found (more_product g) ts f rest
 product_by n ih g ts rest f (Some us) is e =
     let b = bind_ok (reads n a_factor us) (λ x. reads n (more_product (product g x.0)) x.1) (f, rest) e in
     further products factors 42 product says_product ts us b.0.1 rest g b.0.0 f is (ih a_factor us b.0.1 b.0.0 b.1) (ih (more_product (product g b.0.0)) b.0.1 rest f b.2)
 product_by n ih g ts rest f None is e = ended products ts rest g f e
 
 -- a factor behind a minus, or an atom with its exponent
-factor_by : (n : ℕ) (ih : AllFound n) (ts rest : List Token) (f : Formula) (o : Option (List Token)) → taken 45 ts ≡ o → factor_in n ts o ≡ Ok (f, rest) → Found a_factor ts f rest
+factor_by : (n : ℕ) (ih : AllFound n) (ts rest : List Token) (f : Formula) (o : Option (List Token)) → rest_if_sign 45 ts ≡ o → factor_in n ts o ≡ Ok (f, rest) → Found a_factor ts f rest
 factor_by n ih ts rest f (Some us) is e =
     let st = taken_stands 45 ts us is in
     let b = bind_ok (reads n a_factor us) (λ x. Ok (negative x.0, x.1)) (f, rest) e in
@@ -258,13 +258,13 @@ factor_by n ih ts rest f None is e =
     (p.0 ++ w.0, p.1 ∙ ap (λ (xs : List Token). p.0 ++ xs) w.1 ∙ sym (append_assoc p.0 w.0 rest), w.2)
 
 -- a sum in parentheses
-inner_by : (n : ℕ) (ih : AllFound n) (ts rest : List Token) (f : Formula) (o : Option (List Token)) → taken 40 ts ≡ o → inner_in n ts o ≡ Ok (f, rest) → Found an_atom ts f rest
+inner_by : (n : ℕ) (ih : AllFound n) (ts rest : List Token) (f : Formula) (o : Option (List Token)) → rest_if_sign 40 ts ≡ o → inner_in n ts o ≡ Ok (f, rest) → Found an_atom ts f rest
 inner_by n ih ts rest f None is e = absurd cc
 inner_by n ih ts rest f (Some us) is e =
     let st = taken_stands 40 ts us is in
-    let b = bind_ok (reads n a_sum us) (λ x. needed 41 x.1 >>= λ r. Ok (x.0, r)) (f, rest) e in
+    let b = bind_ok (reads n a_sum us) (λ x. rest_after_sign 41 x.1 >>= λ r. Ok (x.0, r)) (f, rest) e in
     let p = ih a_sum us b.0.1 b.0.0 b.1 in
-    let d = bind_ok (needed 41 b.0.1) (λ r. Ok (b.0.0, r)) (f, rest) b.2 in
+    let d = bind_ok (rest_after_sign 41 b.0.1) (λ r. Ok (b.0.0, r)) (f, rest) b.2 in
     let close = needed_stands 41 b.0.1 d.0 d.1 in
     let pair = ok_is (b.0.0, d.0) (f, rest) d.2 in
     let same : b.0.0 ≡ f = ap (λ (x : Formula × List Token). x.0) pair in
@@ -284,14 +284,14 @@ found (suc n) a_sum ts rest f e =
 found (suc n) a_product ts rest f e =
     let b = bind_ok (reads n a_factor ts) (λ x. reads n (more_product x.0) x.1) (f, rest) e in
     whole products factors says_factor ts b.0.1 rest b.0.0 f (found n a_factor ts b.0.1 b.0.0 b.1) (found n (more_product b.0.0) b.0.1 rest f b.2)
-found (suc n) (more_sum g) ts rest f e = sum_by n (found n) g ts rest f (taken 43 ts) (taken 45 ts) refl refl e
-found (suc n) (more_product g) ts rest f e = product_by n (found n) g ts rest f (taken 42 ts) refl e
-found (suc n) a_factor ts rest f e = factor_by n (found n) ts rest f (taken 45 ts) refl e
+found (suc n) (more_sum g) ts rest f e = sum_by n (found n) g ts rest f (rest_if_sign 43 ts) (rest_if_sign 45 ts) refl refl e
+found (suc n) (more_product g) ts rest f e = product_by n (found n) g ts rest f (rest_if_sign 42 ts) refl e
+found (suc n) a_factor ts rest f e = factor_by n (found n) ts rest f (rest_if_sign 45 ts) refl e
 found (suc n) an_atom ((Name w, s) ∷ ts) rest f e = name_found w s ts rest f e
 found (suc n) an_atom ((Number v, s) ∷ ts) rest f e =
     let pair = done_is (number v s) f ts rest e in
     ((Number v, s) ∷ [], ap (λ (xs : List Token). (Number v, s) ∷ xs) pair.1, subst (Says atoms ((Number v, s) ∷ [])) pair.0 (says_number v s))
-found (suc n) an_atom ts rest f e = inner_by n (found n) ts rest f (taken 40 ts) refl e
+found (suc n) an_atom ts rest f e = inner_by n (found n) ts rest f (rest_if_sign 40 ts) refl e
 
 -- the formula at the front is said by its tokens
 pub formula_found : (n : ℕ) (ts rest : List Token) (f : Formula) → reads n a_sum ts ≡ Ok (f, rest) → (front : List Token) × (ts ≡ front ++ rest) × Says sums front f

@@ -4,8 +4,8 @@ use Rattle.std.proofs.lemmas.List.{append-nil}
 use Rattle.lookup_text.specs.declared.fault.TextFault.{TextFault}
 use Rattle.lookup_text.specs.declared.fault.TextFault.TheVariants as faults
 use Rattle.lookup_text.specs.declared.fault.Why.TheVariants.{Endless}
-use Rattle.lookup_text.specs.Faults.{Fails}
-use Rattle.lookup_text.specs.Fronts.{Read, refused}
+use Rattle.lookup_text.specs.Faults.{IsTextFaultOrMemory}
+use Rattle.lookup_text.specs.Fronts.{Read, fault_at_front}
 use Rattle.lookup_text.specs.Lists.{many, with_front}
 use Rattle.lookup_text.specs.Tokens.{Token}
 
@@ -41,7 +41,7 @@ module _ {A : Type 0} (step : List Token → Read (Option A)) (count i : ℕ) (f
       sym told ∙ one
 
   -- a fault
-  pub many-fault : (e : TextFault) → i < count → Fails e (step ts) → Fails e all
+  pub many-fault : (e : TextFault) → i < count → IsTextFaultOrMemory e (step ts) → IsTextFaultOrMemory e all
   unfolding many
   many-fault faults.Memory less is = tt
   many-fault (faults.Fault f) less is =
@@ -50,9 +50,9 @@ module _ {A : Type 0} (step : List Token → Read (Option A)) (count i : ℕ) (f
       sym told ∙ one
 
   -- more steps than tokens
-  pub many-endless : count ≤ i → all ≡ refused Endless ts
+  pub many-endless : count ≤ i → all ≡ fault_at_front Endless ts
   unfolding many
   many-endless most =
       let k : count - i ≡ 0 = omega arith in
-      let one : with_front front (many step (count - i) ts) ≡ refused Endless ts = rw k refl in
+      let one : with_front front (many step (count - i) ts) ≡ fault_at_front Endless ts = rw k refl in
       sym told ∙ one

@@ -5,7 +5,7 @@ use Rattle.std.specs.Str.{all_ascii_digits}
 use Rattle.std.specs.Str.Parse.{AllDigits, digits_value}
 use Rattle.std.proofs.lemmas.Str.Parse.{IsNumeralModel, digit_at, numerals_by_value, tells_all_ascii_digits}
 use Rattle.lookup_text.specs.declared.number.Decimal.TheVariants.{Other}
-use Rattle.lookup_text.specs.Numbers.{decimal_in, decimal_of, short}
+use Rattle.lookup_text.specs.Numbers.{decimal_in, decimal_of, short_number}
 
 -- the texts of ASCII digits are the texts of digits to the base 10
 ascii_digits : IsNumeralModel (λ ds. all_ascii_digits ds ≡ true) (digits_value 10)
@@ -31,7 +31,7 @@ decimal_of-other word i within other =
     other_value _ (all_ascii_digits word) _ _ (λ all. not_both 48 57 (get_or word i 0) (digit_at word i (ascii_digits.to word all) within) other)
 
 -- digits write their value
-pub decimal_of-digits : (word : List ℕ) → 0 < length word → AllDigits 10 word → decimal_of word ≡ decimal_in (short (digits_value 10 word))
+pub decimal_of-digits : (word : List ℕ) → 0 < length word → AllDigits 10 word → decimal_of word ≡ decimal_in (short_number (digits_value 10 word))
 unfolding decimal_of
 decimal_of-digits word some digits =
     let first : nat_lt 0 (length word) ≡ true = lt-ltb 0 (length word) some in

@@ -8,7 +8,7 @@ use Rattle.lookup_text.specs.declared.token.Word.{Word}
 use Rattle.lookup_text.specs.declared.token.Word.TheVariants as words
 use Rattle.lookup_text.specs.Faults.{◌>>=◌}
 use Rattle.lookup_text.specs.Formulas.{Formula, name, next, number, negative, sum, difference, product, power}
-use Rattle.lookup_text.specs.Fronts.{Read, at_front, needed, taken}
+use Rattle.lookup_text.specs.Fronts.{Read, at_front, rest_after_sign, rest_if_sign}
 use Rattle.lookup_text.specs.Grammar.{IsOver, IsReadAs, Level, Says, sums, products, factors, atoms, says_name, says_number, says_next, says_inner, says_atom, says_power, says_negative, says_factor, says_product, says_one, says_sum, says_difference}
 use Rattle.lookup_text.specs.Reading.{Part, a_factor, a_product, a_sum, an_atom, more_product, more_sum, next_at, power_at, reads}
 use Rattle.lookup_text.specs.Tokens.{Token}
@@ -40,10 +40,10 @@ agrees_then a b c (inr deep) _ = inr deep
 -- What stands after tokens of a level: nothing with which an atom or a factor goes on, after a product
 -- and a sum nothing either with which a product does
 abbrev Stops : Level → List Token → Type 0
-Stops atoms rest = taken 40 rest ≡ None
-Stops factors rest = (taken 40 rest ≡ None) × (taken 94 rest ≡ None)
-Stops products rest = (taken 40 rest ≡ None) × (taken 94 rest ≡ None)
-Stops sums rest = (taken 40 rest ≡ None) × (taken 94 rest ≡ None) × (taken 42 rest ≡ None)
+Stops atoms rest = rest_if_sign 40 rest ≡ None
+Stops factors rest = (rest_if_sign 40 rest ≡ None) × (rest_if_sign 94 rest ≡ None)
+Stops products rest = (rest_if_sign 40 rest ≡ None) × (rest_if_sign 94 rest ≡ None)
+Stops sums rest = (rest_if_sign 40 rest ≡ None) × (rest_if_sign 94 rest ≡ None) × (rest_if_sign 42 rest ≡ None)
 
 -- Tokens of a level are read, before what stops there: those of a sum or a product as what goes on
 -- with it, within some layers
@@ -59,13 +59,13 @@ unfolding reads
 none_left part ts other = inr (at_front ts, refl)
 
 -- a product ends where no factor follows
-product_ends : (m : ℕ) (f : Formula) (rest : List Token) → taken 42 rest ≡ None → Agrees (reads m (more_product f) rest) (done f rest)
+product_ends : (m : ℕ) (f : Formula) (rest : List Token) → rest_if_sign 42 rest ≡ None → Agrees (reads m (more_product f) rest) (done f rest)
 unfolding reads
 product_ends zero f rest none = inr (at_front rest, refl)
 product_ends (suc m) f rest none = inl (rw (reads, none) refl)
 
 -- a sum ends where no product follows
-sum_ends : (m : ℕ) (f : Formula) (rest : List Token) → taken 43 rest ≡ None → taken 45 rest ≡ None → Agrees (reads m (more_sum f) rest) (done f rest)
+sum_ends : (m : ℕ) (f : Formula) (rest : List Token) → rest_if_sign 43 rest ≡ None → rest_if_sign 45 rest ≡ None → Agrees (reads m (more_sum f) rest) (done f rest)
 unfolding reads
 sum_ends zero f rest none no_minus = inr (at_front rest, refl)
 sum_ends (suc m) f rest none no_minus = inl (rw (reads, none, no_minus) refl)
@@ -91,20 +91,20 @@ product_more zero s us f g rest is stops = (zero, inr (_, refl))
 product_more (suc m) s us f g rest is stops = (m, agrees_bind (reads m a_factor (us ++ rest)) g rest (λ x. reads m (more_product (product f x.0)) x.1) (is m rest stops))
 
 -- an atom begins with no minus
-atom_first : (xs : List Token) (f : Formula) (rest : List Token) → Says atoms xs f → taken 45 (xs ++ rest) ≡ None
+atom_first : (xs : List Token) (f : Formula) (rest : List Token) → Says atoms xs f → rest_if_sign 45 (xs ++ rest) ≡ None
 atom_first xs f rest (says_name w s) = refl
 atom_first xs f rest (says_number n s) = refl
 atom_first xs f rest (says_next s o t c w) = refl
 atom_first xs f rest (says_inner o c ts g p) = refl
 
 -- a name before what is no parenthesis
-name_read : (w : Word) (s : Span) (rest : List Token) → taken 40 rest ≡ None → next_at w s rest ≡ done (name s) rest
+name_read : (w : Word) (s : Span) (rest : List Token) → rest_if_sign 40 rest ≡ None → next_at w s rest ≡ done (name s) rest
 unfolding next_at
 name_read words.Next s rest none = rw (next_at, none) refl
 name_read w s rest none = refl
 
 -- nothing stands behind an atom that is no power
-power_none : (f : Formula) (rest : List Token) → taken 94 rest ≡ None → power_at f rest ≡ done f rest
+power_none : (f : Formula) (rest : List Token) → rest_if_sign 94 rest ≡ None → power_at f rest ≡ done f rest
 unfolding power_at
 power_none f rest none = rw (power_at, none) refl
 
@@ -127,16 +127,16 @@ inner_read n o c ts f rest is =
     let close : List Token = (Sign 41, c) ∷ rest in
     let w = is n close (refl, refl, refl) in
     let sum : Agrees (reads n a_sum (ts ++ close)) (done f close) = agrees_then _ _ _ w.1 (sum_ends w.0 f close refl refl) in
-    subst (λ us. Agrees (reads n a_sum us >>= λ x. needed 41 x.1 >>= λ r. Ok (x.0, r)) (done f rest)) (sym (append_assoc ts ((Sign 41, c) ∷ []) rest)) (agrees_bind (reads n a_sum (ts ++ close)) f close (λ x. needed 41 x.1 >>= λ r. Ok (x.0, r)) sum)
+    subst (λ us. Agrees (reads n a_sum us >>= λ x. rest_after_sign 41 x.1 >>= λ r. Ok (x.0, r)) (done f rest)) (sym (append_assoc ts ((Sign 41, c) ∷ []) rest)) (agrees_bind (reads n a_sum (ts ++ close)) f close (λ x. rest_after_sign 41 x.1 >>= λ r. Ok (x.0, r)) sum)
 
 -- an atom with what stands behind it
-factor_read : (n : ℕ) (ts mid : List Token) (g f : Formula) (rest : List Token) → taken 45 (ts ++ mid) ≡ None → Agrees (reads n an_atom (ts ++ mid)) (done g mid) → power_at g mid ≡ done f rest → Agrees (reads (suc n) a_factor (ts ++ mid)) (done f rest)
+factor_read : (n : ℕ) (ts mid : List Token) (g f : Formula) (rest : List Token) → rest_if_sign 45 (ts ++ mid) ≡ None → Agrees (reads n an_atom (ts ++ mid)) (done g mid) → power_at g mid ≡ done f rest → Agrees (reads (suc n) a_factor (ts ++ mid)) (done f rest)
 unfolding reads
 factor_read n ts mid g f rest none atom is =
     let step : reads (suc n) a_factor (ts ++ mid) ≡ (reads n an_atom (ts ++ mid) >>= λ x. power_at x.0 x.1) = rw (reads, none) refl in
     subst (λ r. Agrees r (done f rest)) (sym step) (agrees_then _ _ _ (agrees_bind (reads n an_atom (ts ++ mid)) g mid (λ x. power_at x.0 x.1) atom) (inl is))
 
-name_layers : (w : Word) (s : Span) (n : ℕ) (rest : List Token) → taken 40 rest ≡ None → Agrees (reads n an_atom ((Name w, s) ∷ rest)) (done (name s) rest)
+name_layers : (w : Word) (s : Span) (n : ℕ) (rest : List Token) → rest_if_sign 40 rest ≡ None → Agrees (reads n an_atom ((Name w, s) ∷ rest)) (done (name s) rest)
 unfolding reads
 name_layers w s zero rest none = inr (at_front ((Name w, s) ∷ rest), refl)
 name_layers w s (suc n) rest none = inl (name_read w s rest none)
@@ -155,7 +155,7 @@ inner_layers : (o c : Span) (ts : List Token) (f : Formula) (n : ℕ) (rest : Li
 inner_layers o c ts f zero rest is = none_left an_atom _ _
 inner_layers o c ts f (suc n) rest is = inner_read n o c ts f rest is
 
-factor_layers : (ts mid : List Token) (g f : Formula) (n : ℕ) (rest : List Token) → taken 45 (ts ++ mid) ≡ None → ((m : ℕ) → Agrees (reads m an_atom (ts ++ mid)) (done g mid)) → power_at g mid ≡ done f rest → Agrees (reads n a_factor (ts ++ mid)) (done f rest)
+factor_layers : (ts mid : List Token) (g f : Formula) (n : ℕ) (rest : List Token) → rest_if_sign 45 (ts ++ mid) ≡ None → ((m : ℕ) → Agrees (reads m an_atom (ts ++ mid)) (done g mid)) → power_at g mid ≡ done f rest → Agrees (reads n a_factor (ts ++ mid)) (done f rest)
 factor_layers ts mid g f zero rest none atom is = none_left a_factor _ _
 factor_layers ts mid g f (suc n) rest none atom is = factor_read n ts mid g f rest none (atom n) is
 

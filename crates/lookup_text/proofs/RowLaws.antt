@@ -9,7 +9,7 @@ use Rattle.lookup_text.specs.declared.number.Decimal.{Decimal}
 use Rattle.lookup_text.specs.declared.number.Decimal.TheVariants as decimals
 use Rattle.lookup_text.specs.Faults.{◌>>=◌}
 use Rattle.lookup_text.specs.Numbers.{decimal_of}
-use Rattle.lookup_text.specs.Tables.{AreRows, cell_at, cells_of, residue_at, row_at, rows_at, value_of, without_return}
+use Rattle.lookup_text.specs.Tables.{AreRows, cell_at, cells_of_line, residue_at, row_at, rows_at, cell_number_of, without_return}
 use Rattle.lookup_text.proofs.GrammarLaws.{bind_ok}
 
 -- what was read
@@ -38,13 +38,13 @@ cell_by true modulus at d e = residue_place modulus at true d
 cell_by false modulus at d e = residue_place modulus at false e
 
 -- nor does a number
-cell_place : (modulus at : ℕ) (cell : List ℕ) → result_ok (cell_at modulus at cell) ≡ value_of modulus cell
+cell_place : (modulus at : ℕ) (cell : List ℕ) → result_ok (cell_at modulus at cell) ≡ cell_number_of modulus cell
 unfolding cell_at
 cell_place modulus at [] = residue_place modulus at false (decimal_of [])
 cell_place modulus at (b ∷ bs) = cell_by (b == 45) modulus at (decimal_of bs) (decimal_of (b ∷ bs))
 
 -- the number that was read
-read_value : (modulus at : ℕ) (cell : List ℕ) (n : ℕ) → cell_at modulus at cell ≡ Ok n → value_of modulus cell ≡ Some n
+read_value : (modulus at : ℕ) (cell : List ℕ) (n : ℕ) → cell_at modulus at cell ≡ Ok n → cell_number_of modulus cell ≡ Some n
 read_value modulus at cell n is = sym (cell_place modulus at cell) ∙ ap result_ok is
 
 ok_from : (r : Result ℕ Fault) (n : ℕ) → result_ok r ≡ Some n → r ≡ read n
@@ -52,11 +52,11 @@ ok_from (Ok m) n is = ap (λ (k : ℕ). Ok k) (some_is m n is)
 ok_from (Err e) n is = absurd cc
 
 -- a number is read
-value_read : (modulus at : ℕ) (cell : List ℕ) (n : ℕ) → value_of modulus cell ≡ Some n → cell_at modulus at cell ≡ Ok n
+value_read : (modulus at : ℕ) (cell : List ℕ) (n : ℕ) → cell_number_of modulus cell ≡ Some n → cell_at modulus at cell ≡ Ok n
 value_read modulus at cell n is = ok_from (cell_at modulus at cell) n (cell_place modulus at cell ∙ is)
 
 -- a row that was read
-row_found : (modulus at width : ℕ) (cells : List (List ℕ)) (ns : List ℕ) → row_at modulus at width cells ≡ Ok ns → (length cells ≡ width) × (map (value_of modulus) cells ≡ map Some ns)
+row_found : (modulus at width : ℕ) (cells : List (List ℕ)) (ns : List ℕ) → row_at modulus at width cells ≡ Ok ns → (length cells ≡ width) × (map (cell_number_of modulus) cells ≡ map Some ns)
 unfolding row_at
 row_found modulus at zero [] ns e = (refl, ap (map Some) (list_is [] ns e))
 row_found modulus at zero (cell ∷ cells) ns e = absurd cc
@@ -68,7 +68,7 @@ row_found modulus at (suc width) (cell ∷ cells) ns e =
     (ap (λ n. suc n) rest.0, (λ i. read_value modulus at cell b.0 b.1 i ∷ rest.1 i) ∙ ap (map Some) (list_is (b.0 ∷ d.0) ns d.2))
 
 -- a row of numbers is read
-row_read : (modulus at width : ℕ) (cells : List (List ℕ)) (ns : List ℕ) → length cells ≡ width → map (value_of modulus) cells ≡ map Some ns → row_at modulus at width cells ≡ Ok ns
+row_read : (modulus at width : ℕ) (cells : List (List ℕ)) (ns : List ℕ) → length cells ≡ width → map (cell_number_of modulus) cells ≡ map Some ns → row_at modulus at width cells ≡ Ok ns
 unfolding row_at
 row_read modulus at zero [] [] long is = refl
 row_read modulus at zero [] (n ∷ ns) long is = absurd cc
@@ -76,13 +76,13 @@ row_read modulus at zero (cell ∷ cells) ns long is = absurd (omega (arith, lon
 row_read modulus at (suc width) [] ns long is = absurd (omega (arith, long))
 row_read modulus at (suc width) (cell ∷ cells) [] long is = absurd cc
 row_read modulus at (suc width) (cell ∷ cells) (n ∷ ns) long is =
-    let first : value_of modulus cell ≡ Some n = cc in
-    let others : map (value_of modulus) cells ≡ map Some ns = cc in
+    let first : cell_number_of modulus cell ≡ Some n = cc in
+    let others : map (cell_number_of modulus) cells ≡ map Some ns = cc in
     rw (value_read modulus at cell n first, row_read modulus (at + (length cell + 1)) width cells ns (omega (arith, long)) others) refl
 
 -- the cells of a line
 abbrev cells : List ℕ → List (List ℕ)
-cells line = cells_of (without_return line)
+cells line = cells_of_line (without_return line)
 
 -- lines that were read
 pub rows_found : (modulus width at : ℕ) (lines : List (List ℕ)) (ns : List ℕ) → rows_at modulus width at lines ≡ Ok ns → AreRows modulus width lines ns
@@ -95,16 +95,16 @@ rows_found modulus width at (line ∷ lines) ns e =
     let rest = rows_found modulus width (at + (length line + 1)) lines d.0 d.1 in
     record {
       widths = (first.0, rest.widths);
-      values = map-append (value_of modulus) (cells line) (flat_map cells lines) ∙ (λ i. first.1 i ++ rest.values i) ∙ sym (map-append Some b.0 d.0) ∙ ap (map Some) (list_is (b.0 ++ d.0) ns d.2);
+      values = map-append (cell_number_of modulus) (cells line) (flat_map cells lines) ∙ (λ i. first.1 i ++ rest.values i) ∙ sym (map-append Some b.0 d.0) ∙ ap (map Some) (list_is (b.0 ++ d.0) ns d.2);
     }
 
 -- numbers of two parts are those of each
-parted : (modulus : ℕ) (xs ys : List (List ℕ)) (ns : List ℕ) → map (value_of modulus) (xs ++ ys) ≡ map Some ns → (front : List ℕ) × (back : List ℕ) × (ns ≡ front ++ back) × (map (value_of modulus) xs ≡ map Some front) × (map (value_of modulus) ys ≡ map Some back)
+parted : (modulus : ℕ) (xs ys : List (List ℕ)) (ns : List ℕ) → map (cell_number_of modulus) (xs ++ ys) ≡ map Some ns → (front : List ℕ) × (back : List ℕ) × (ns ≡ front ++ back) × (map (cell_number_of modulus) xs ≡ map Some front) × (map (cell_number_of modulus) ys ≡ map Some back)
 parted modulus [] ys ns is = ([], ns, refl, refl, is)
 parted modulus (x ∷ xs) ys [] is = absurd cc
 parted modulus (x ∷ xs) ys (n ∷ ns) is =
-    let first : value_of modulus x ≡ Some n = cc in
-    let others : map (value_of modulus) (xs ++ ys) ≡ map Some ns = cc in
+    let first : cell_number_of modulus x ≡ Some n = cc in
+    let others : map (cell_number_of modulus) (xs ++ ys) ≡ map Some ns = cc in
     let w = parted modulus xs ys ns others in
     (n ∷ w.0, w.1, ap (λ (ms : List ℕ). n ∷ ms) w.2, (λ i. first i ∷ w.3 i), w.4)
 

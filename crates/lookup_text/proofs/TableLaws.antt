@@ -12,9 +12,9 @@ use Rattle.lookup_text.specs.declared.fault.Fault.{Fault}
 use Rattle.lookup_text.specs.declared.fault.TextFault.{TextFault}
 use Rattle.lookup_text.specs.declared.fault.TextFault.TheVariants as faults
 use Rattle.lookup_text.specs.declared.fault.Why.TheVariants.{EmptyName, ExtraCell, Header, MissingCell, RepeatedName}
-use Rattle.lookup_text.specs.Faults.{◌>>=◌, Fails}
+use Rattle.lookup_text.specs.Faults.{◌>>=◌, IsTextFaultOrMemory}
 use Rattle.lookup_text.specs.Lexemes.{line_length}
-use Rattle.lookup_text.specs.Tables.{before_first_part, cell_at, cells_of, header_at, is_among, lines_of, names_from, names_of, row_at, rows_at, without_return}
+use Rattle.lookup_text.specs.Tables.{before_first_part, cell_at, cells_of_line, header_at, is_name_among, lines_of, names_from, names_of, row_at, rows_at, without_return}
 use Rattle.lookup_text.specs.internal.Tables.{IsAfter, with_numbers}
 use Rattle.lookup_text.proofs.TokenLaws.{length-take_while}
 
@@ -84,8 +84,8 @@ lines_end : (text : List ℕ) → text ≡ [] → [] ≡ lines_of text
 unfolding lines_of
 lines_end text none = rw none refl
 
-unfolded_cells : (b : ℕ) (bs : List ℕ) → cells_of (b ∷ bs) ≡ cond (b == 44) ([] ∷ cells_of bs) (before_first_part b (cells_of bs))
-unfolding cells_of
+unfolded_cells : (b : ℕ) (bs : List ℕ) → cells_of_line (b ∷ bs) ≡ cond (b == 44) ([] ∷ cells_of_line bs) (before_first_part b (cells_of_line bs))
+unfolding cells_of_line
 unfolded_cells b bs = refl
 
 unfolded_lines : (b : ℕ) (bs : List ℕ) → lines_of (b ∷ bs) ≡ cond (b == 10) ([] ∷ lines_of bs) (before_first_part b (lines_of bs))
@@ -93,14 +93,14 @@ unfolding lines_of
 unfolded_lines b bs = refl
 
 -- the cells of a line with a comma
-pub cells_of-more : (line : List ℕ) → before 44 line < length line → cells_of line ≡ take (before 44 line) line ∷ cells_of (drop (before 44 line + 1) line)
-cells_of-more line within = parts-more 44 cells_of unfolded_cells line within
+pub cells_of-more : (line : List ℕ) → before 44 line < length line → cells_of_line line ≡ take (before 44 line) line ∷ cells_of_line (drop (before 44 line + 1) line)
+cells_of-more line within = parts-more 44 cells_of_line unfolded_cells line within
 
 -- a line with no comma is one cell
-pub cells_of-last : (line : List ℕ) → length line ≤ before 44 line → cells_of line ≡ line ∷ []
-unfolding cells_of
+pub cells_of-last : (line : List ℕ) → length line ≤ before 44 line → cells_of_line line ≡ line ∷ []
+unfolding cells_of_line
 cells_of-last [] end = refl
-cells_of-last (b ∷ bs) end = parts-last 44 cells_of unfolded_cells (λ c. refl) b bs end
+cells_of-last (b ∷ bs) end = parts-last 44 cells_of_line unfolded_cells (λ c. refl) b bs end
 
 lines_by : (text : List ℕ) → 0 < length text → (before 10 text < length text) ⊎ (length text ≤ before 10 text) → lines_of text ≡ take (before 10 text) text ∷ lines_of (drop (before 10 text + 1) text)
 lines_by text some (inl within) = parts-more 10 lines_of unfolded_lines text within
@@ -118,10 +118,10 @@ lines_of-more text some =
     subst (λ n. lines_of text ≡ take n text ∷ lines_of (drop (n + 1) text)) (sym long) (lines_by text some (cases_lt (before 10 text) (length text)))
 
 -- a line has a first cell
-pub first_cell : (line : List ℕ) → (cell : List ℕ) × (others : List (List ℕ)) × (cells_of line ≡ cell ∷ others)
+pub first_cell : (line : List ℕ) → (cell : List ℕ) × (others : List (List ℕ)) × (cells_of_line line ≡ cell ∷ others)
 first_cell line =
     elim (cases_lt (before 44 line) (length line)) [
-      | inl within ↦ (take (before 44 line) line, cells_of (drop (before 44 line + 1) line), cells_of-more line within)
+      | inl within ↦ (take (before 44 line) line, cells_of_line (drop (before 44 line + 1) line), cells_of-more line within)
       | inr end ↦ (line, [], cells_of-last line end)
     ]
 
@@ -145,7 +145,7 @@ module _ (modulus at width i : ℕ) (front : List ℕ) (cells : List (List ℕ))
       sym one ∙ told
 
   -- a cell that has no number
-  pub row-fault : (cell : List ℕ) (others : List (List ℕ)) (e : TextFault) → i < width → cells ≡ cell ∷ others → Fails e (cell_at modulus at cell) → Fails e all
+  pub row-fault : (cell : List ℕ) (others : List (List ℕ)) (e : TextFault) → i < width → cells ≡ cell ∷ others → IsTextFaultOrMemory e (cell_at modulus at cell) → IsTextFaultOrMemory e all
   unfolding row_at
   row-fault cell others faults.Memory less are is = tt
   row-fault cell others (faults.Fault f) less are is =
@@ -184,7 +184,7 @@ rows_step front new (Ok r) (Err e) is = refl
 rows_step front new (Err e) rows is = absurd cc
 
 -- a line that has a fault
-rows_fault : (e : TextFault) (front : List ℕ) (row rows : Result (List ℕ) Fault) → Fails e (with_numbers front row) → Fails e (with_numbers front (row >>= λ r. rows >>= λ rs. Ok (r ++ rs)))
+rows_fault : (e : TextFault) (front : List ℕ) (row rows : Result (List ℕ) Fault) → IsTextFaultOrMemory e (with_numbers front row) → IsTextFaultOrMemory e (with_numbers front (row >>= λ r. rows >>= λ rs. Ok (r ++ rs)))
 rows_fault faults.Memory front row rows is = tt
 rows_fault (faults.Fault f) front (Ok r) rows is = absurd cc
 rows_fault (faults.Fault f) front (Err e) rows is = is
@@ -193,21 +193,21 @@ module _ (modulus width at len : ℕ) (front text : List ℕ) (all : Result (Lis
   abbrev line : List ℕ
   line = take len text
 
-  first_line : with_numbers front (row_at modulus at width (cells_of (without_return line)) >>= λ r. rows_at modulus width (at + (len + 1)) (lines_of (drop (len + 1) text)) >>= λ rs. Ok (r ++ rs)) ≡ all
+  first_line : with_numbers front (row_at modulus at width (cells_of_line (without_return line)) >>= λ r. rows_at modulus width (at + (len + 1)) (lines_of (drop (len + 1) text)) >>= λ rs. Ok (r ++ rs)) ≡ all
   unfolding rows_at
   first_line =
       let size : length line ≡ len = length-take-le len text (omega (arith, long, length-take_while (λ b. not (b == 10)) text)) in
       let lines : lines_of text ≡ line ∷ lines_of (drop (len + 1) text) = subst (λ n. lines_of text ≡ take n text ∷ lines_of (drop (n + 1) text)) (sym long) (lines_of-more text some) in
-      let one : with_numbers front (rows_at modulus width at (lines_of text)) ≡ with_numbers front (row_at modulus at width (cells_of (without_return line)) >>= λ r. rows_at modulus width (at + (length line + 1)) (lines_of (drop (len + 1) text)) >>= λ rs. Ok (r ++ rs)) = rw lines refl in
-      subst (λ n. with_numbers front (row_at modulus at width (cells_of (without_return line)) >>= λ r. rows_at modulus width (at + (n + 1)) (lines_of (drop (len + 1) text)) >>= λ rs. Ok (r ++ rs)) ≡ all) size (sym one ∙ told)
+      let one : with_numbers front (rows_at modulus width at (lines_of text)) ≡ with_numbers front (row_at modulus at width (cells_of_line (without_return line)) >>= λ r. rows_at modulus width (at + (length line + 1)) (lines_of (drop (len + 1) text)) >>= λ rs. Ok (r ++ rs)) = rw lines refl in
+      subst (λ n. with_numbers front (row_at modulus at width (cells_of_line (without_return line)) >>= λ r. rows_at modulus width (at + (n + 1)) (lines_of (drop (len + 1) text)) >>= λ rs. Ok (r ++ rs)) ≡ all) size (sym one ∙ told)
 
   -- one more line
-  pub rows-more : (new : List ℕ) → with_numbers front (row_at modulus at width (cells_of (without_return line))) ≡ Ok new → with_numbers new (rows_at modulus width (at + (len + 1)) (lines_of (drop (len + 1) text))) ≡ all
+  pub rows-more : (new : List ℕ) → with_numbers front (row_at modulus at width (cells_of_line (without_return line))) ≡ Ok new → with_numbers new (rows_at modulus width (at + (len + 1)) (lines_of (drop (len + 1) text))) ≡ all
   rows-more new is = sym (rows_step front new _ _ is) ∙ first_line
 
   -- a line with a fault
-  pub rows-fault : (e : TextFault) → Fails e (with_numbers front (row_at modulus at width (cells_of (without_return line)))) → Fails e all
-  rows-fault e is = subst (λ r. Fails e r) first_line (rows_fault e front _ _ is)
+  pub rows-fault : (e : TextFault) → IsTextFaultOrMemory e (with_numbers front (row_at modulus at width (cells_of_line (without_return line)))) → IsTextFaultOrMemory e all
+  rows-fault e is = subst (λ r. IsTextFaultOrMemory e r) first_line (rows_fault e front _ _ is)
 
 -- all lines
 pub rows-end : (modulus width at : ℕ) (front text : List ℕ) (all : Result (List ℕ) Fault) → length text ≡ 0 → with_numbers front (rows_at modulus width at (lines_of text)) ≡ all → all ≡ Ok front
@@ -216,13 +216,13 @@ rows-end modulus width at front [] all none told = sym told ∙ ap (λ (xs : Lis
 rows-end modulus width at front (b ∷ bs) all none told = absurd (omega (arith, none))
 
 -- whether a name is among those of vectors
-pub is_among-items : (name : List ℕ) (names : List (Vec ℕ Global)) → is_among name (names_of names) ≡ list_any (λ other. bytes_eq other.items name) names
+pub is_among-items : (name : List ℕ) (names : List (Vec ℕ Global)) → is_name_among name (names_of names) ≡ list_any (λ other. bytes_eq other.items name) names
 is_among-items name [] = refl
 is_among-items name (other ∷ others) = ap (λ b. bytes_eq other.items name || b) (is_among-items name others)
 
 module _ (at : ℕ) (before cells : List (List ℕ)) (all : Result (List (List ℕ)) Fault) (told : names_from at before cells ≡ all) where
   -- one more name
-  pub names-more : (name : List ℕ) (others : List (List ℕ)) → cells ≡ name ∷ others → (length name == 0) ≡ false → is_among name before ≡ false → names_from (at + (length name + 1)) (before ++ name ∷ []) others ≡ all
+  pub names-more : (name : List ℕ) (others : List (List ℕ)) → cells ≡ name ∷ others → (length name == 0) ≡ false → is_name_among name before ≡ false → names_from (at + (length name + 1)) (before ++ name ∷ []) others ≡ all
   unfolding names_from
   names-more name others are some new =
       let one : names_from at before cells ≡ names_from (at + (length name + 1)) (before ++ name ∷ []) others = rw (are, some, new) refl in
@@ -236,7 +236,7 @@ module _ (at : ℕ) (before cells : List (List ℕ)) (all : Result (List (List �
       sym told ∙ one
 
   -- a name that stood before
-  pub names-repeated : (name : List ℕ) (others : List (List ℕ)) → cells ≡ name ∷ others → (length name == 0) ≡ false → is_among name before ≡ true → all ≡ Err (record { at = at; why = RepeatedName })
+  pub names-repeated : (name : List ℕ) (others : List (List ℕ)) → cells ≡ name ∷ others → (length name == 0) ≡ false → is_name_among name before ≡ true → all ≡ Err (record { at = at; why = RepeatedName })
   unfolding names_from
   names-repeated name others are some old =
       let one : names_from at before cells ≡ Err (record { at = at; why = RepeatedName }) = rw (are, some, old) refl in
@@ -250,7 +250,7 @@ module _ (at : ℕ) (before cells : List (List ℕ)) (all : Result (List (List �
       sym told ∙ one
 
 -- a header that has bytes
-pub header-some : (at : ℕ) (line : List ℕ) → (length line == 0) ≡ false → names_from at [] (cells_of line) ≡ header_at at line
+pub header-some : (at : ℕ) (line : List ℕ) → (length line == 0) ≡ false → names_from at [] (cells_of_line line) ≡ header_at at line
 unfolding header_at
 header-some at line some = rw some refl
 

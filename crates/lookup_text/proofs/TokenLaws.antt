@@ -13,7 +13,7 @@ use Rattle.lookup_text.specs.declared.token.Kind.TheVariants.{Sign}
 use Rattle.lookup_text.specs.Faults.{◌>>=◌}
 use Rattle.lookup_text.specs.Lexemes.{lexeme_at}
 use Rattle.lookup_text.specs.Places.{mark_length}
-use Rattle.lookup_text.specs.Tokens.{Token, depth_after, ending, tokens_from}
+use Rattle.lookup_text.specs.Tokens.{Token, depth_after, end_tokens, tokens_from}
 
 -- tokens that were found before those that are read
 abbrev pub with_tokens : List Token → Result (List Token) Fault → Result (List Token) Fault
@@ -58,7 +58,7 @@ tokens_from-fault at depth why [] some is = absurd (omega (arith, some))
 tokens_from-fault at depth why (b ∷ bs) some is = rw (tokens_from, ← is) refl
 
 -- at the end
-pub tokens_from-end : (at depth : ℕ) (bytes : List ℕ) → length bytes ≡ 0 → tokens_from 0 at depth bytes ≡ Ok (ending at)
+pub tokens_from-end : (at depth : ℕ) (bytes : List ℕ) → length bytes ≡ 0 → tokens_from 0 at depth bytes ≡ Ok (end_tokens at)
 unfolding tokens_from
 tokens_from-end at depth [] none = refl
 tokens_from-end at depth (b ∷ bs) none = absurd (omega (arith, none))
@@ -120,5 +120,5 @@ told-fault text front at depth why all within is told =
 
 -- the text ends
 pub told-end : (text : List ℕ) (front : List Token) (at depth : ℕ) (all : Result (List Token) Fault) → length text ≤ at
-    → with_tokens front (tokens_from 0 at depth (drop at text)) ≡ all → all ≡ Ok (front ++ ending at)
+    → with_tokens front (tokens_from 0 at depth (drop at text)) ≡ all → all ≡ Ok (front ++ end_tokens at)
 told-end text front at depth all end told = sym told ∙ ap (with_tokens front) (tokens_from-end at depth (drop at text) (omega (arith, length-drop at text)))

@@ -11,7 +11,7 @@ use Rattle.lookup_text.specs.declared.token.Span.{Span}
 use Rattle.lookup_text.specs.declared.token.Word.{Word}
 use Rattle.lookup_text.specs.declared.token.Word.TheVariants as words
 use Rattle.lookup_text.specs.Faults.{◌>>=◌}
-use Rattle.lookup_text.specs.Fronts.{Read, after_lines, is_end, line_needed, named_at, needed, refused, taken, word_at}
+use Rattle.lookup_text.specs.Fronts.{Read, after_lines, is_end, line_needed, named_at, rest_after_sign, fault_at_front, rest_if_sign, word_at}
 use Rattle.lookup_text.specs.Items.{Placed, item_at, names_at, placed_of}
 use Rattle.lookup_text.specs.Lists.{many}
 use Rattle.lookup_text.specs.Tokens.{Token, tokens_of}
@@ -32,8 +32,8 @@ pub data Section : Type 0 where
   air : Air → Section
 
 -- a bus, without where it lies in memory
-abbrev pub bus_of : BusText → Bus
-bus_of b = record { name = b.name; fields = b.fields.items }
+abbrev pub bus_section_of : BusText → Bus
+bus_section_of b = record { name = b.name; fields = b.fields.items }
 
 -- an AIR, without where it lies in memory
 abbrev pub air_of : AirText → Air
@@ -41,7 +41,7 @@ air_of a = record { name = a.name; items = map placed_of a.items.items }
 
 -- a bus or an AIR, without where it lies in memory
 abbrev pub section_of : SectionText → Section
-section_of (texts.Bus b) = bus (bus_of b)
+section_of (texts.Bus b) = bus (bus_section_of b)
 section_of (texts.Air a) = air (air_of a)
 
 -- a batch, without where it lies in memory
@@ -49,10 +49,10 @@ abbrev pub batch_of : BatchText → List Section
 batch_of b = map section_of b.sections.items
 
 -- a bus, behind its first word
-unfoldable pub bus_at : List Token → Read Bus
-bus_at ts = do
+unfoldable pub bus_section_at : List Token → Read Bus
+bus_section_at ts = do
   name ← named_at whys.Name ts
-  us ← needed 40 name.1
+  us ← rest_after_sign 40 name.1
   fields ← names_at us
   Ok (record { name = name.0; fields = fields.0 }, fields.1)
 
@@ -63,21 +63,21 @@ item_for ts None = item_at ts >>= λ x. line_needed x.1 >>= λ rest. Ok (Some x.
 
 -- one more item of an AIR, or its end
 unfoldable pub more_item : List Token → Read (Option Placed)
-more_item ts = item_for (after_lines ts) (taken 125 (after_lines ts))
+more_item ts = item_for (after_lines ts) (rest_if_sign 125 (after_lines ts))
 
 -- an AIR, behind its first word
 unfoldable pub air_at : List Token → Read Air
 air_at ts = do
   name ← named_at whys.Name ts
-  us ← needed 123 name.1
+  us ← rest_after_sign 123 name.1
   items ← many more_item (length us) us
   Ok (record { name = name.0; items = items.0 }, items.1)
 
 -- a bus or an AIR, by its first word
 abbrev pub section_in : Word → List Token → Read Section
-section_in words.Bus ts = bus_at (drop 1 ts) >>= λ x. Ok (bus x.0, x.1)
+section_in words.Bus ts = bus_section_at (drop 1 ts) >>= λ x. Ok (bus x.0, x.1)
 section_in words.Air ts = air_at (drop 1 ts) >>= λ x. Ok (air x.0, x.1)
-section_in w ts = refused whys.Section ts
+section_in w ts = fault_at_front whys.Section ts
 
 -- the bus or AIR at the front
 unfoldable pub section_at : List Token → Read Section

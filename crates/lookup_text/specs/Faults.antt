@@ -11,11 +11,11 @@ abbrev pub ◌>>=◌ : {A B : Type 0} → Result A Fault → (A → Result B Fau
 (Err e) >>= f = Err e
 
 -- a fault that a function returned is the one that reading gives, unless memory ran out
-abbrev pub Fails : {Y : Type 0} → TextFault → Result Y Fault → Type 0
-Fails faults.Memory read = Unit {0}
-Fails (faults.Fault f) read = read ≡ Err f
+abbrev pub IsTextFaultOrMemory : {Y : Type 0} → TextFault → Result Y Fault → Type 0
+IsTextFaultOrMemory faults.Memory read = Unit {0}
+IsTextFaultOrMemory (faults.Fault f) read = read ≡ Err f
 
 -- what a function returned, as view shows it, is what reading gives, unless memory ran out
-abbrev pub Gives : {X Y : Type 0} → (X → Y) → Result X TextFault → Result Y Fault → Type 0
-Gives view (Ok x) read = read ≡ Ok (view x)
-Gives view (Err e) read = Fails e read
+abbrev pub IsTextResultOrMemory : {X Y : Type 0} → (X → Y) → Result X TextFault → Result Y Fault → Type 0
+IsTextResultOrMemory view (Ok x) read = read ≡ Ok (view x)
+IsTextResultOrMemory view (Err e) read = IsTextFaultOrMemory e read

@@ -19,37 +19,37 @@ at_front [] = 0
 at_front (t ∷ ts) = t.1.start
 
 -- the fault at the first of some tokens
-abbrev pub refused : {A : Type 0} → Why → List Token → Result A Fault
-refused why ts = Err (record { at = at_front ts; why = why })
+abbrev pub fault_at_front : {A : Type 0} → Why → List Token → Result A Fault
+fault_at_front why ts = Err (record { at = at_front ts; why = why })
 
 -- the tokens after a sign, if they begin with it
-abbrev pub taken : ℕ → List Token → Option (List Token)
-taken sign ((Sign b, s) ∷ ts) = if b == sign then Some ts else None
-taken sign ts = None
+abbrev pub rest_if_sign : ℕ → List Token → Option (List Token)
+rest_if_sign sign ((Sign b, s) ∷ ts) = if b == sign then Some ts else None
+rest_if_sign sign ts = None
 
 -- a value that has to be there
-abbrev pub or_refused : {A : Type 0} → Why → List Token → Option A → Result A Fault
-or_refused why ts None = refused why ts
-or_refused why ts (Some x) = Ok x
+abbrev pub value_or_fault : {A : Type 0} → Why → List Token → Option A → Result A Fault
+value_or_fault why ts None = fault_at_front why ts
+value_or_fault why ts (Some x) = Ok x
 
 -- the tokens after a sign, which has to be there
-abbrev pub needed : ℕ → List Token → Result (List Token) Fault
-needed sign ts = or_refused (whys.Sign sign) ts (taken sign ts)
+abbrev pub rest_after_sign : ℕ → List Token → Result (List Token) Fault
+rest_after_sign sign ts = value_or_fault (whys.Sign sign) ts (rest_if_sign sign ts)
 
 -- the number at the front, which has to be there
 abbrev pub number_at : List Token → Read ℕ
 number_at ((Number n, s) ∷ ts) = Ok (n, ts)
-number_at ts = refused whys.Number ts
+number_at ts = fault_at_front whys.Number ts
 
 -- the name at the front, which has to be there
 abbrev pub named_at : Why → List Token → Read Span
 named_at why ((Name w, s) ∷ ts) = Ok (s, ts)
-named_at why ts = refused why ts
+named_at why ts = fault_at_front why ts
 
 -- the text in double quotes at the front, which has to be there
 abbrev pub quoted_at : List Token → Read Span
 quoted_at ((Quoted, s) ∷ ts) = Ok (s, ts)
-quoted_at ts = refused whys.File ts
+quoted_at ts = fault_at_front whys.File ts
 
 -- the word at the front, and `Other` where none is
 abbrev pub word_at : List Token → Word
@@ -64,7 +64,7 @@ is_end ts = false
 -- the tokens after the end of a line, which has to be there
 abbrev pub line_needed : List Token → Result (List Token) Fault
 line_needed ((Line, s) ∷ ts) = Ok ts
-line_needed ts = refused whys.Line ts
+line_needed ts = fault_at_front whys.Line ts
 
 -- the tokens after any ends of lines
 abbrev pub after_lines : List Token → List Token

@@ -6,7 +6,7 @@ use Rattle.lookup_text.specs.declared.token.Kind.TheVariants.{Name, Number, Sign
 use Rattle.lookup_text.specs.declared.token.Word.{Word}
 use Rattle.lookup_text.specs.declared.token.Word.TheVariants.{Next}
 use Rattle.lookup_text.specs.Formulas.{Formula, name, next, number, negative, sum, difference, product, power}
-use Rattle.lookup_text.specs.Fronts.{Read, taken}
+use Rattle.lookup_text.specs.Fronts.{Read, rest_if_sign}
 use Rattle.lookup_text.specs.Tokens.{Token}
 
 -- the four levels of the grammar
@@ -36,11 +36,11 @@ pub data Says : Level → List Token → Formula → Type 0 where
 
 -- no token with which an expression goes on stands at the front: none of ( ^ * + -
 pub record IsOver (ts : List Token) : Type 0 where
-  pub no_parenthesis : taken 40 ts ≡ None
-  pub no_power : taken 94 ts ≡ None
-  pub no_product : taken 42 ts ≡ None
-  pub no_sum : taken 43 ts ≡ None
-  pub no_difference : taken 45 ts ≡ None
+  pub no_parenthesis : rest_if_sign 40 ts ≡ None
+  pub no_power : rest_if_sign 94 ts ≡ None
+  pub no_product : rest_if_sign 42 ts ≡ None
+  pub no_sum : rest_if_sign 43 ts ≡ None
+  pub no_difference : rest_if_sign 45 ts ≡ None
 
 -- what is read of some tokens is said by those before the rest
 abbrev pub IsFound : List Token → Formula → List Token → Type 0

@@ -11,7 +11,7 @@ use Rattle.lookup_text.specs.declared.token.Word.{Word}
 use Rattle.lookup_text.specs.declared.token.Word.TheVariants as words
 use Rattle.lookup_text.specs.Faults.{◌>>=◌}
 use Rattle.lookup_text.specs.Formulas.{Formula, formula_of}
-use Rattle.lookup_text.specs.Fronts.{Read, after_lines, at_front, line_needed, named_at, needed, number_at, quoted_at, refused, taken, word_at}
+use Rattle.lookup_text.specs.Fronts.{Read, after_lines, at_front, line_needed, named_at, rest_after_sign, number_at, quoted_at, fault_at_front, rest_if_sign, word_at}
 use Rattle.lookup_text.specs.Lists.{many, with_front}
 use Rattle.lookup_text.specs.Messages.{Message, message_at, message_of}
 use Rattle.lookup_text.specs.Reading.{formula_at}
@@ -23,8 +23,8 @@ pub record Part : Type 0 where
   pub message : Message
 
 -- a message of a group, without where it lies in memory
-abbrev pub part_of : PartText → Part
-part_of p = record { flag = option_map formula_of p.flag; message = message_of p.message }
+abbrev pub group_part_of : PartText → Part
+group_part_of p = record { flag = option_map formula_of p.flag; message = message_of p.message }
 
 -- an item of an AIR
 pub data Item : Type 0 where
@@ -49,8 +49,8 @@ item_of (texts.Columns v) = columns v.items
 item_of (texts.Public s n) = public s n
 item_of (texts.Let s t) = letting s (formula_of t)
 item_of (texts.Message m) = message (message_of m)
-item_of (texts.Together v) = together (map part_of v.items)
-item_of (texts.Exclusive v) = exclusive (map part_of v.items)
+item_of (texts.Together v) = together (map group_part_of v.items)
+item_of (texts.Exclusive v) = exclusive (map group_part_of v.items)
 
 -- an item, and where it begins
 pub record Placed : Type 0 where
@@ -63,12 +63,12 @@ placed_of p = record { at = p.at; item = item_of p.item }
 
 -- a name behind a comma, or the end at a parenthesis
 abbrev pub name_in : List Token → Option (List Token) → Read (Option Span)
-name_in ts None = needed 41 ts >>= λ rest. Ok (None, rest)
+name_in ts None = rest_after_sign 41 ts >>= λ rest. Ok (None, rest)
 name_in ts (Some us) = named_at whys.Name us >>= λ x. Ok (Some x.0, x.1)
 
 -- one more name, or the end of the names
 unfoldable pub more_name : List Token → Read (Option Span)
-more_name ts = name_in ts (taken 44 ts)
+more_name ts = name_in ts (rest_if_sign 44 ts)
 
 -- names between commas, up to a parenthesis
 unfoldable pub names_at : List Token → Read (List Span)
@@ -77,7 +77,7 @@ names_at ts = named_at whys.Name ts >>= λ x. with_front (x.0 ∷ []) (many more
 -- the tokens after `when`
 abbrev pub when_in : Word → List Token → Result (List Token) Fault
 when_in words.When ts = Ok (drop 1 ts)
-when_in w ts = refused whys.When ts
+when_in w ts = fault_at_front whys.When ts
 
 -- the tokens after `when`, which has to be there
 unfoldable pub when_needed : List Token → Result (List Token) Fault
@@ -102,17 +102,17 @@ part_in flagged ts None = part_at flagged ts >>= λ x. line_needed x.1 >>= λ re
 
 -- one more message of a group, or its end
 unfoldable pub more_part : Bool → List Token → Read (Option Part)
-more_part flagged ts = part_in flagged (after_lines ts) (taken 125 (after_lines ts))
+more_part flagged ts = part_in flagged (after_lines ts) (rest_if_sign 125 (after_lines ts))
 
 -- the messages of a group, in braces
 unfoldable pub parts_at : Bool → List Token → Read (List Part)
-parts_at flagged ts = needed 123 ts >>= λ us. many (more_part flagged) (length us) us
+parts_at flagged ts = rest_after_sign 123 ts >>= λ us. many (more_part flagged) (length us) us
 
 -- a public value, behind its name
 unfoldable pub public_at : List Token → Read Item
 public_at ts = do
   name ← named_at whys.Name ts
-  us ← needed 61 name.1
+  us ← rest_after_sign 61 name.1
   value ← number_at us
   Ok (public name.0 value.0, value.1)
 
@@ -120,7 +120,7 @@ public_at ts = do
 unfoldable pub let_at : List Token → Read Item
 let_at ts = do
   name ← named_at whys.Name ts
-  us ← needed 61 name.1
+  us ← rest_after_sign 61 name.1
   value ← formula_at us
   Ok (letting name.0 value.0, value.1)
 
@@ -130,10 +130,10 @@ declaration_in words.Trace ts = quoted_at (drop 1 ts) >>= λ x. Ok (trace x.0, x
 declaration_in words.Preprocessed ts = quoted_at (drop 1 ts) >>= λ x. Ok (preprocessed x.0, x.1)
 declaration_in words.Lookups ts = quoted_at (drop 1 ts) >>= λ x. Ok (lookups x.0, x.1)
 declaration_in words.Height ts = number_at (drop 1 ts) >>= λ x. Ok (height x.0, x.1)
-declaration_in words.Columns ts = needed 40 (drop 1 ts) >>= λ us. names_at us >>= λ x. Ok (columns x.0, x.1)
+declaration_in words.Columns ts = rest_after_sign 40 (drop 1 ts) >>= λ us. names_at us >>= λ x. Ok (columns x.0, x.1)
 declaration_in words.Public ts = public_at (drop 1 ts)
 declaration_in words.Let ts = let_at (drop 1 ts)
-declaration_in w ts = refused whys.Item ts
+declaration_in w ts = fault_at_front whys.Item ts
 
 -- a message as an item
 abbrev pub message_item : List Token → Read Item

@@ -2,7 +2,7 @@
 use Rattle.std.specs.Prelude.{ℕ, zero, suc, List, [], ◌∷◌, ◌++◌, Option, Some, None, Ok}
 use Rattle.lookup_text.specs.declared.fault.Why.TheVariants.{Endless}
 use Rattle.lookup_text.specs.Faults.{◌>>=◌}
-use Rattle.lookup_text.specs.Fronts.{Read, refused}
+use Rattle.lookup_text.specs.Fronts.{Read, fault_at_front}
 use Rattle.lookup_text.specs.Tokens.{Token}
 
 -- parts before those that are read
@@ -17,5 +17,5 @@ with_part (Some x) ts others = with_front (x ∷ []) others
 -- The parts of which each step reads one, up to the step that reads an end. There are no more steps
 -- than this, and as many as there are tokens are enough.
 unfoldable pub many : {A : Type 0} → (List Token → Read (Option A)) → ℕ → List Token → Read (List A)
-many step zero ts = refused Endless ts
+many step zero ts = fault_at_front Endless ts
 many step (suc n) ts = step ts >>= λ x. with_part x.0 x.1 (many step n x.1)

@@ -10,7 +10,7 @@ use Rattle.lookup_text.specs.declared.token.Word.{Word}
 use Rattle.lookup_text.specs.declared.token.Word.TheVariants.{Query, Provide, Send, Receive, Local, Times, At, Most}
 use Rattle.lookup_text.specs.Faults.{◌>>=◌}
 use Rattle.lookup_text.specs.Formulas.{Formula, formula_of}
-use Rattle.lookup_text.specs.Fronts.{Read, at_front, named_at, needed, number_at, refused, taken, word_at}
+use Rattle.lookup_text.specs.Fronts.{Read, at_front, named_at, rest_after_sign, number_at, fault_at_front, rest_if_sign, word_at}
 use Rattle.lookup_text.specs.Lists.{many, with_front}
 use Rattle.lookup_text.specs.Reading.{formula_at}
 use Rattle.lookup_text.specs.Tokens.{Token}
@@ -34,7 +34,7 @@ verb_in Query ts = Ok (verbs.Query, drop 1 ts)
 verb_in Provide ts = Ok (verbs.Provide, drop 1 ts)
 verb_in Send ts = Ok (verbs.Send, drop 1 ts)
 verb_in Receive ts = Ok (verbs.Receive, drop 1 ts)
-verb_in w ts = refused whys.Verb ts
+verb_in w ts = fault_at_front whys.Verb ts
 
 -- what a message does
 unfoldable pub verb_at : List Token → Read Verb
@@ -46,17 +46,17 @@ bus_in Local ts = Ok (None, drop 1 ts)
 bus_in w ts = named_at whys.Bus ts >>= λ x. Ok (Some x.0, x.1)
 
 -- the bus of a message
-unfoldable pub bus_at : List Token → Read (Option Span)
-bus_at ts = bus_in (word_at ts) ts
+unfoldable pub message_bus_at : List Token → Read (Option Span)
+message_bus_at ts = bus_in (word_at ts) ts
 
 -- an expression behind a comma, or the end at a parenthesis
 abbrev pub formula_in : List Token → Option (List Token) → Read (Option Formula)
-formula_in ts None = needed 41 ts >>= λ rest. Ok (None, rest)
+formula_in ts None = rest_after_sign 41 ts >>= λ rest. Ok (None, rest)
 formula_in ts (Some us) = formula_at us >>= λ x. Ok (Some x.0, x.1)
 
 -- one more expression of a tuple, or its end
 unfoldable pub more_formula : List Token → Read (Option Formula)
-more_formula ts = formula_in ts (taken 44 ts)
+more_formula ts = formula_in ts (rest_if_sign 44 ts)
 
 -- expressions between commas, up to a parenthesis
 unfoldable pub tuple_at : List Token → Read (List Formula)
@@ -65,7 +65,7 @@ tuple_at ts = formula_at ts >>= λ x. with_front (x.0 ∷ []) (many more_formula
 -- the tokens after `most`
 abbrev pub most_in : Word → List Token → Result (List Token) Fault
 most_in Most ts = Ok (drop 1 ts)
-most_in w ts = refused whys.Most ts
+most_in w ts = fault_at_front whys.Most ts
 
 -- the tokens after `most`, which has to be there
 unfoldable pub most_needed : List Token → Result (List Token) Fault
@@ -93,8 +93,8 @@ count_at ts = count_in (word_at ts) ts
 unfoldable pub message_at : List Token → Read Message
 message_at ts = do
   verb ← verb_at ts
-  bus ← bus_at verb.1
-  us ← needed 40 bus.1
+  bus ← message_bus_at verb.1
+  us ← rest_after_sign 40 bus.1
   tuple ← tuple_at us
   count ← count_at tuple.1
   Ok (record { at = at_front ts; verb = verb.0; bus = bus.0; tuple = tuple.0; times = count.0.0; at_most = count.0.1 }, count.1)

@@ -6,8 +6,8 @@ use Rattle.lookup_text.specs.declared.number.Decimal.{Decimal}
 use Rattle.lookup_text.specs.declared.number.Decimal.TheVariants.{Value, Large, Other}
 
 -- a number below 2^64
-abbrev pub short : ℕ → Option ℕ
-short n = if nat_lt n 18446744073709551616 then Some n else None
+abbrev pub short_number : ℕ → Option ℕ
+short_number n = if nat_lt n 18446744073709551616 then Some n else None
 
 -- a number, by whether it is below 2^64
 abbrev pub decimal_in : Option ℕ → Decimal
@@ -16,4 +16,4 @@ decimal_in (Some n) = Value n
 
 -- the number that one or more decimal digits write
 unfoldable pub decimal_of : List ℕ → Decimal
-decimal_of word = if nat_lt 0 (length word) && all_ascii_digits word then decimal_in (short (digits_value 10 word)) else Other
+decimal_of word = if nat_lt 0 (length word) && all_ascii_digits word then decimal_in (short_number (digits_value 10 word)) else Other

@@ -1,7 +1,7 @@
 -- What reading tokens gives: a formula and the tokens after it, or the first fault.
 use Rattle.std.specs.Prelude.{◌==◌, ◌||◌, ℕ, zero, suc, List, ◌∷◌, Option, Some, None, Ok, nat_lt, if◌then◌else◌}
 use Rattle.lookup_text.specs.Faults.{◌>>=◌}
-use Rattle.lookup_text.specs.Fronts.{Read, named_at, needed, number_at, refused, taken}
+use Rattle.lookup_text.specs.Fronts.{Read, named_at, rest_after_sign, number_at, fault_at_front, rest_if_sign}
 use Rattle.lookup_text.specs.Tokens.{Token}
 use Rattle.lookup_text.specs.Formulas.{Formula, name, next, number, negative, sum, difference, product, power}
 use Rattle.lookup_text.specs.declared.fault.Why.TheVariants as whys
@@ -13,21 +13,21 @@ use Rattle.lookup_text.specs.declared.token.Word.TheVariants.{Next}
 -- a name, or that of the next row where parentheses stand after `next`
 abbrev pub next_in : Span → List Token → Option (List Token) → Read Formula
 next_in s ts None = Ok (name s, ts)
-next_in s ts (Some us) = named_at whys.Column us >>= λ x. needed 41 x.1 >>= λ rest. Ok (next x.0, rest)
+next_in s ts (Some us) = named_at whys.Column us >>= λ x. rest_after_sign 41 x.1 >>= λ rest. Ok (next x.0, rest)
 
 -- `next` before parentheses names a column of the next row, and each other word is a name
 unfoldable pub next_at : Word → Span → List Token → Read Formula
-next_at Next s ts = next_in s ts (taken 40 ts)
+next_at Next s ts = next_in s ts (rest_if_sign 40 ts)
 next_at w s ts = Ok (name s, ts)
 
 -- a formula with what may stand after a `^`: an exponent from 1 to 64
 abbrev pub power_in : Formula → List Token → Option (List Token) → Read Formula
 power_in f ts None = Ok (f, ts)
-power_in f ts (Some us) = number_at us >>= λ x. if (x.0 == 0) || nat_lt 64 x.0 then refused whys.Exponent us else Ok (power f x.0, x.1)
+power_in f ts (Some us) = number_at us >>= λ x. if (x.0 == 0) || nat_lt 64 x.0 then fault_at_front whys.Exponent us else Ok (power f x.0, x.1)
 
 -- a formula with its exponent, if one stands after it
 unfoldable pub power_at : Formula → List Token → Read Formula
-power_at f ts = power_in f ts (taken 94 ts)
+power_at f ts = power_in f ts (rest_if_sign 94 ts)
 
 -- what is to be read: a sum, a product, a factor, an atom, or what goes on with a sum or a product
 pub data Part : Type 0 where
@@ -41,34 +41,34 @@ pub data Part : Type 0 where
 -- Reading within so many layers. A sum is a product with what goes on after it, a product likewise a
 -- factor, and a factor has a minus or an atom with its exponent.
 unfoldable pub reads : ℕ → Part → List Token → Read Formula
-reads zero part ts = refused whys.Deep ts
+reads zero part ts = fault_at_front whys.Deep ts
 reads (suc n) a_sum ts = reads n a_product ts >>= λ x. reads n (more_sum x.0) x.1
 reads (suc n) a_product ts = reads n a_factor ts >>= λ x. reads n (more_product x.0) x.1
 reads (suc n) (more_sum f) ts =
-    elim (taken 43 ts) [
+    elim (rest_if_sign 43 ts) [
       | Some us ↦ reads n a_product us >>= λ x. reads n (more_sum (sum f x.0)) x.1
       | None ↦
-          elim (taken 45 ts) [
+          elim (rest_if_sign 45 ts) [
             | Some us ↦ reads n a_product us >>= λ x. reads n (more_sum (difference f x.0)) x.1
             | None ↦ Ok (f, ts)
           ]
     ]
 reads (suc n) (more_product f) ts =
-    elim (taken 42 ts) [
+    elim (rest_if_sign 42 ts) [
       | Some us ↦ reads n a_factor us >>= λ x. reads n (more_product (product f x.0)) x.1
       | None ↦ Ok (f, ts)
     ]
 reads (suc n) a_factor ts =
-    elim (taken 45 ts) [
+    elim (rest_if_sign 45 ts) [
       | Some us ↦ reads n a_factor us >>= λ x. Ok (negative x.0, x.1)
       | None ↦ reads n an_atom ts >>= λ x. power_at x.0 x.1
     ]
 reads (suc n) an_atom ((Name w, s) ∷ ts) = next_at w s ts
 reads (suc n) an_atom ((Number v, s) ∷ ts) = Ok (number v s, ts)
 reads (suc n) an_atom ts =
-    elim (taken 40 ts) [
-      | Some us ↦ reads n a_sum us >>= λ x. needed 41 x.1 >>= λ rest. Ok (x.0, rest)
-      | None ↦ refused whys.Expression ts
+    elim (rest_if_sign 40 ts) [
+      | Some us ↦ reads n a_sum us >>= λ x. rest_after_sign 41 x.1 >>= λ rest. Ok (x.0, rest)
+      | None ↦ fault_at_front whys.Expression ts
     ]
 
 -- the formula at the front, of at most 1,024 layers

@@ -27,9 +27,9 @@ lines_of [] = []
 lines_of (b ∷ bs) = if b == 10 then [] ∷ lines_of bs else before_first_part b (lines_of bs)
 
 -- the cells of a line, between its commas
-unfoldable pub cells_of : List ℕ → List (List ℕ)
-cells_of [] = [] ∷ []
-cells_of (b ∷ bs) = if b == 44 then [] ∷ cells_of bs else before_first_part b (cells_of bs)
+unfoldable pub cells_of_line : List ℕ → List (List ℕ)
+cells_of_line [] = [] ∷ []
+cells_of_line (b ∷ bs) = if b == 44 then [] ∷ cells_of_line bs else before_first_part b (cells_of_line bs)
 
 -- a line without the CR at its end
 abbrev pub without_return : List ℕ → List ℕ
@@ -64,23 +64,23 @@ row_at modulus at (suc width) (cell ∷ cells) =
 unfoldable pub rows_at : ℕ → ℕ → ℕ → List (List ℕ) → Result (List ℕ) Fault
 rows_at modulus width at [] = Ok []
 rows_at modulus width at (line ∷ lines) =
-    row_at modulus at width (cells_of (without_return line)) >>= λ row. rows_at modulus width (at + (length line + 1)) lines >>= λ rows. Ok (row ++ rows)
+    row_at modulus at width (cells_of_line (without_return line)) >>= λ row. rows_at modulus width (at + (length line + 1)) lines >>= λ rows. Ok (row ++ rows)
 
 -- whether a name is one of these
-abbrev pub is_among : List ℕ → List (List ℕ) → Bool
-is_among name names = list_any (λ other. bytes_eq other name) names
+abbrev pub is_name_among : List ℕ → List (List ℕ) → Bool
+is_name_among name names = list_any (λ other. bytes_eq other name) names
 
 -- names that begin here, after those before: none is empty, and none stood before
 unfoldable pub names_from : ℕ → List (List ℕ) → List (List ℕ) → Result (List (List ℕ)) Fault
 names_from at before [] = Ok before
 names_from at before (name ∷ names) =
     if length name == 0 then fault at whys.EmptyName
-    else if is_among name before then fault at whys.RepeatedName
+    else if is_name_among name before then fault at whys.RepeatedName
     else names_from (at + (length name + 1)) (before ++ name ∷ []) names
 
 -- the names of the columns
 unfoldable pub header_at : ℕ → List ℕ → Result (List (List ℕ)) Fault
-header_at at line = if length line == 0 then fault at whys.Header else names_from at [] (cells_of line)
+header_at at line = if length line == 0 then fault at whys.Header else names_from at [] (cells_of_line line)
 
 -- names, without where they lie in memory
 abbrev pub names_of : List (Vec ℕ Global) → List (List ℕ)
@@ -104,10 +104,10 @@ unfoldable pub table_at : ℕ → List ℕ → Result Numbers Fault
 table_at modulus text = table_after modulus (mark_length text) (line_length (drop (mark_length text) text)) (drop (mark_length text) text)
 
 -- the number of a cell, if it has one
-abbrev pub value_of : ℕ → List ℕ → Option ℕ
-value_of modulus cell = result_ok (cell_at modulus 0 cell)
+abbrev pub cell_number_of : ℕ → List ℕ → Option ℕ
+cell_number_of modulus cell = result_ok (cell_at modulus 0 cell)
 
 -- lines have these numbers: each line has so many cells, and the numbers are those of all cells in turn
 pub record AreRows (modulus width : ℕ) (lines : List (List ℕ)) (numbers : List ℕ) : Type 0 where
-  pub widths : AllByRecursion (λ line. length (cells_of (without_return line)) ≡ width) lines
-  pub values : map (value_of modulus) (flat_map (λ line. cells_of (without_return line)) lines) ≡ map Some numbers
+  pub widths : AllByRecursion (λ line. length (cells_of_line (without_return line)) ≡ width) lines
+  pub values : map (cell_number_of modulus) (flat_map (λ line. cells_of_line (without_return line)) lines) ≡ map Some numbers

@@ -19,13 +19,13 @@ depth_after (Sign b) depth = if b == 40 then depth + 1 else if b == 41 then dept
 depth_after kind depth = depth
 
 -- the end of a text at this place: that of its last line, and of all
-abbrev pub ending : ℕ → List Token
-ending at = (Line, record { start = at; end = at }) ∷ (End, record { start = at; end = at }) ∷ []
+abbrev pub end_tokens : ℕ → List Token
+end_tokens at = (Line, record { start = at; end = at }) ∷ (End, record { start = at; end = at }) ∷ []
 
 -- The tokens of some bytes that begin at this place, within so many open parentheses. The first
 -- bytes, as many as `skip` says, are of the token or the blank before.
 unfoldable pub tokens_from : ℕ → ℕ → ℕ → List ℕ → Result (List Token) Fault
-tokens_from skip at depth [] = Ok (ending at)
+tokens_from skip at depth [] = Ok (end_tokens at)
 tokens_from (suc skip) at depth (b ∷ bs) = tokens_from skip (at + 1) depth bs
 tokens_from zero at depth (b ∷ bs) =
     elim (lexeme_at depth (b ∷ bs)) [

@@ -1,7 +1,7 @@
 //! A whole text: buses and AIRs.
 ghost use Rattle.std.specs.Prelude.{◌≡◌, length, map, option_map};
-ghost use Rattle.lookup_text.specs.Batches.{air_at, air_of, batch_at, batch_of, bus_at, bus_of, more_item, more_section, section_at, section_of};
-ghost use Rattle.lookup_text.specs.Faults.{Gives};
+ghost use Rattle.lookup_text.specs.Batches.{air_at, air_of, batch_at, batch_of, bus_section_at, bus_section_of, more_item, more_section, section_at, section_of};
+ghost use Rattle.lookup_text.specs.Faults.{IsTextResultOrMemory};
 ghost use Rattle.lookup_text.specs.Items.{placed_of};
 ghost use Rattle.lookup_text.specs.Lists.{many};
 
@@ -48,7 +48,7 @@ pub struct BatchText {
 /// a layer of its own, and a parenthesis four.
 #[tactic(auto, unfolding(crate::specs::Batches::batch_at))]
 pub fn read_batch(alloc: Global, text: &[u8]) -> Result<BatchText, TextFault>
-    ensures { Gives batch_of result (batch_at text.now) }
+    ensures { IsTextResultOrMemory batch_of result (batch_at text.now) }
 {
     let tokens = tokens(alloc, text)?;
     let (sections, _) = read_sections(alloc, tokens.as_slice())?;
@@ -57,7 +57,7 @@ pub fn read_batch(alloc: Global, text: &[u8]) -> Result<BatchText, TextFault>
 
 /// All buses and AIRs.
 fn read_sections(alloc: Global, tokens: &[Token]) -> Result<(Vec<SectionText>, &[Token]), TextFault>
-    ensures { Gives (λ x. (map section_of x.0.items, x.1.now)) result
+    ensures { IsTextResultOrMemory (λ x. (map section_of x.0.items, x.1.now)) result
         (many more_section (length tokens.now) tokens.now) }
 {
     let mut values = Vec::new(alloc);
@@ -82,7 +82,7 @@ fn one_more_section(
     alloc: Global,
     tokens: &[Token],
 ) -> Result<(Option<SectionText>, &[Token]), TextFault>
-    ensures { Gives (λ x. (option_map section_of x.0, x.1.now)) result
+    ensures { IsTextResultOrMemory (λ x. (option_map section_of x.0, x.1.now)) result
         (more_section tokens.now) }
 {
     let tokens = skip_lines(tokens);
@@ -96,7 +96,7 @@ fn one_more_section(
 /// A bus or an AIR.
 #[tactic(auto, unfolding(crate::specs::Batches::section_at))]
 fn read_section(alloc: Global, tokens: &[Token]) -> Result<(SectionText, &[Token]), TextFault>
-    ensures { Gives (λ x. (section_of x.0, x.1.now)) result (section_at tokens.now) }
+    ensures { IsTextResultOrMemory (λ x. (section_of x.0, x.1.now)) result (section_at tokens.now) }
 {
     match word(tokens) {
         Word::Bus => {
@@ -115,9 +115,9 @@ fn read_section(alloc: Global, tokens: &[Token]) -> Result<(SectionText, &[Token
 }
 
 /// A bus, behind its first word.
-#[tactic(auto, unfolding(crate::specs::Batches::bus_at))]
+#[tactic(auto, unfolding(crate::specs::Batches::bus_section_at))]
 fn read_bus(alloc: Global, tokens: &[Token]) -> Result<(BusText, &[Token]), TextFault>
-    ensures { Gives (λ x. (bus_of x.0, x.1.now)) result (bus_at tokens.now) }
+    ensures { IsTextResultOrMemory (λ x. (bus_section_of x.0, x.1.now)) result (bus_section_at tokens.now) }
 {
     let (name, after) = name(tokens, Why::Name)?;
     let (fields, after) = read_names(alloc, need(after, b'(')?)?;
@@ -127,7 +127,7 @@ fn read_bus(alloc: Global, tokens: &[Token]) -> Result<(BusText, &[Token]), Text
 /// An AIR, behind its first word.
 #[tactic(auto, unfolding(crate::specs::Batches::air_at))]
 fn read_air(alloc: Global, tokens: &[Token]) -> Result<(AirText, &[Token]), TextFault>
-    ensures { Gives (λ x. (air_of x.0, x.1.now)) result (air_at tokens.now) }
+    ensures { IsTextResultOrMemory (λ x. (air_of x.0, x.1.now)) result (air_at tokens.now) }
 {
     let (name, after) = name(tokens, Why::Name)?;
     let (items, after) = read_items(alloc, need(after, b'{')?)?;
@@ -136,7 +136,7 @@ fn read_air(alloc: Global, tokens: &[Token]) -> Result<(AirText, &[Token]), Text
 
 /// The items of an AIR, up to the brace that closes it.
 fn read_items(alloc: Global, tokens: &[Token]) -> Result<(Vec<PlacedItem>, &[Token]), TextFault>
-    ensures { Gives (λ x. (map placed_of x.0.items, x.1.now)) result
+    ensures { IsTextResultOrMemory (λ x. (map placed_of x.0.items, x.1.now)) result
         (many more_item (length tokens.now) tokens.now) }
 {
     let mut values = Vec::new(alloc);
@@ -161,7 +161,7 @@ fn one_more_item(
     alloc: Global,
     tokens: &[Token],
 ) -> Result<(Option<PlacedItem>, &[Token]), TextFault>
-    ensures { Gives (λ x. (option_map placed_of x.0, x.1.now)) result (more_item tokens.now) }
+    ensures { IsTextResultOrMemory (λ x. (option_map placed_of x.0, x.1.now)) result (more_item tokens.now) }
 {
     let tokens = skip_lines(tokens);
     match take(tokens, b'}') {

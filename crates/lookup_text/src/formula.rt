@@ -1,5 +1,5 @@
 //! An expression, by recursive descent over its tokens. Each call on the stack takes one layer.
-ghost use Rattle.lookup_text.specs.Faults.{Gives};
+ghost use Rattle.lookup_text.specs.Faults.{IsTextResultOrMemory};
 ghost use Rattle.lookup_text.specs.Reading.{a_factor, a_product, a_sum, an_atom, formula_at, more_product as more_product_part, more_sum as more_sum_part, next_at, power_at, reads};
 ghost use Rattle.lookup_text.specs.Formulas.{formula_of};
 
@@ -26,7 +26,7 @@ const MAX_LAYERS: usize = 1024;
 
 /// The expression at the front of some tokens, and the tokens after it.
 pub fn read_formula(alloc: Global, tokens: &[Token]) -> Result<(Tree, &[Token]), TextFault>
-    ensures { Gives (λ x. (formula_of x.0, x.1.now)) result (formula_at tokens.now) }
+    ensures { IsTextResultOrMemory (λ x. (formula_of x.0, x.1.now)) result (formula_at tokens.now) }
 {
     read_sum(alloc, tokens, MAX_LAYERS)
 }
@@ -34,7 +34,7 @@ pub fn read_formula(alloc: Global, tokens: &[Token]) -> Result<(Tree, &[Token]),
 #[cycle(grammar)]
 #[tactic(auto, unfolding(crate::specs::Reading::reads))]
 fn read_sum(alloc: Global, tokens: &[Token], layers: usize) -> Result<(Tree, &[Token]), TextFault>
-    ensures { Gives (λ x. (formula_of x.0, x.1.now)) result (reads layers a_sum tokens.now) }
+    ensures { IsTextResultOrMemory (λ x. (formula_of x.0, x.1.now)) result (reads layers a_sum tokens.now) }
 {
     if layers == 0 {
         return Err(TextFault::Fault(Fault {
@@ -54,7 +54,7 @@ fn more_sum(
     tokens: &[Token],
     layers: usize,
 ) -> Result<(Tree, &[Token]), TextFault>
-    ensures { Gives (λ x. (formula_of x.0, x.1.now)) result
+    ensures { IsTextResultOrMemory (λ x. (formula_of x.0, x.1.now)) result
         (reads layers (more_sum_part (formula_of left)) tokens.now) }
 {
     if layers == 0 {
@@ -83,7 +83,7 @@ fn read_product(
     tokens: &[Token],
     layers: usize,
 ) -> Result<(Tree, &[Token]), TextFault>
-    ensures { Gives (λ x. (formula_of x.0, x.1.now)) result (reads layers a_product tokens.now) }
+    ensures { IsTextResultOrMemory (λ x. (formula_of x.0, x.1.now)) result (reads layers a_product tokens.now) }
 {
     if layers == 0 {
         return Err(TextFault::Fault(Fault {
@@ -103,7 +103,7 @@ fn more_product(
     tokens: &[Token],
     layers: usize,
 ) -> Result<(Tree, &[Token]), TextFault>
-    ensures { Gives (λ x. (formula_of x.0, x.1.now)) result
+    ensures { IsTextResultOrMemory (λ x. (formula_of x.0, x.1.now)) result
         (reads layers (more_product_part (formula_of left)) tokens.now) }
 {
     if layers == 0 {
@@ -127,7 +127,7 @@ fn read_factor(
     tokens: &[Token],
     layers: usize,
 ) -> Result<(Tree, &[Token]), TextFault>
-    ensures { Gives (λ x. (formula_of x.0, x.1.now)) result (reads layers a_factor tokens.now) }
+    ensures { IsTextResultOrMemory (λ x. (formula_of x.0, x.1.now)) result (reads layers a_factor tokens.now) }
 {
     if layers == 0 {
         return Err(TextFault::Fault(Fault {
@@ -146,7 +146,7 @@ fn read_factor(
 /// An expression with the exponent behind it, if one is there.
 #[tactic(auto, unfolding(crate::specs::Reading::power_at))]
 fn read_power(alloc: Global, base: Tree, tokens: &[Token]) -> Result<(Tree, &[Token]), TextFault>
-    ensures { Gives (λ x. (formula_of x.0, x.1.now)) result
+    ensures { IsTextResultOrMemory (λ x. (formula_of x.0, x.1.now)) result
         (power_at (formula_of base) tokens.now) }
 {
     match take(tokens, b'^') {
@@ -167,7 +167,7 @@ fn read_power(alloc: Global, base: Tree, tokens: &[Token]) -> Result<(Tree, &[To
 #[cycle(grammar)]
 #[tactic(auto, unfolding(crate::specs::Reading::reads))]
 fn read_atom(alloc: Global, tokens: &[Token], layers: usize) -> Result<(Tree, &[Token]), TextFault>
-    ensures { Gives (λ x. (formula_of x.0, x.1.now)) result (reads layers an_atom tokens.now) }
+    ensures { IsTextResultOrMemory (λ x. (formula_of x.0, x.1.now)) result (reads layers an_atom tokens.now) }
 {
     if layers == 0 {
         return Err(TextFault::Fault(Fault {
@@ -194,7 +194,7 @@ fn read_atom(alloc: Global, tokens: &[Token], layers: usize) -> Result<(Tree, &[
 /// A name, or that of the next row where `next` stands before parentheses.
 #[tactic(auto, unfolding(crate::specs::Reading::next_at))]
 fn read_name(word: Word, span: Span, tokens: &[Token]) -> Result<(Tree, &[Token]), TextFault>
-    ensures { Gives (λ x. (formula_of x.0, x.1.now)) result (next_at word span tokens.now) }
+    ensures { IsTextResultOrMemory (λ x. (formula_of x.0, x.1.now)) result (next_at word span tokens.now) }
 {
     match (word, take(tokens, b'(')) {
         (Word::Next, Some(rest)) => {

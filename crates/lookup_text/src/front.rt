@@ -1,7 +1,7 @@
 //! What stands at the front of some tokens.
 ghost use Rattle.std.specs.Prelude.{◌≡◌, drop, option_map};
-ghost use Rattle.lookup_text.specs.Faults.{Gives};
-ghost use Rattle.lookup_text.specs.Fronts.{after_lines, at_front, is_end, line_needed, named_at, needed, number_at, quoted_at, taken, word_at};
+ghost use Rattle.lookup_text.specs.Faults.{IsTextResultOrMemory};
+ghost use Rattle.lookup_text.specs.Fronts.{after_lines, at_front, is_end, line_needed, named_at, rest_after_sign, number_at, quoted_at, rest_if_sign, word_at};
 
 use crate::fault::{Fault, TextFault, Why};
 use crate::token::{Kind, Span, Token, Word};
@@ -18,7 +18,7 @@ pub(crate) fn place(tokens: &[Token]) -> usize
 
 /// The tokens after a sign, if they begin with it.
 pub(crate) fn take(tokens: &[Token], sign: u8) -> Option<&[Token]>
-    ensures { option_map (λ x. x.now) result ≡ taken sign tokens.now }
+    ensures { option_map (λ x. x.now) result ≡ rest_if_sign sign tokens.now }
 {
     match tokens {
         [(Kind::Sign(found), _), rest @ ..] => { if *found == sign { Some(rest) } else { None } }
@@ -28,7 +28,7 @@ pub(crate) fn take(tokens: &[Token], sign: u8) -> Option<&[Token]>
 
 /// The tokens after a sign that has to be there.
 pub(crate) fn need(tokens: &[Token], sign: u8) -> Result<&[Token], TextFault>
-    ensures { Gives (λ x. x.now) result (needed sign tokens.now) }
+    ensures { IsTextResultOrMemory (λ x. x.now) result (rest_after_sign sign tokens.now) }
 {
     match take(tokens, sign) {
         Some(rest) => Ok(rest),
@@ -41,7 +41,7 @@ pub(crate) fn need(tokens: &[Token], sign: u8) -> Result<&[Token], TextFault>
 
 /// A number that has to be there, and the tokens after it.
 pub(crate) fn number(tokens: &[Token]) -> Result<(u64, &[Token]), TextFault>
-    ensures { Gives (λ x. (x.0, x.1.now)) result (number_at tokens.now) }
+    ensures { IsTextResultOrMemory (λ x. (x.0, x.1.now)) result (number_at tokens.now) }
 {
     match tokens {
         [(Kind::Number(value), _), rest @ ..] => Ok((*value, rest)),
@@ -54,7 +54,7 @@ pub(crate) fn number(tokens: &[Token]) -> Result<(u64, &[Token]), TextFault>
 
 /// A name that has to be there, and the tokens after it.
 pub(crate) fn name(tokens: &[Token], why: Why) -> Result<(Span, &[Token]), TextFault>
-    ensures { Gives (λ x. (x.0, x.1.now)) result (named_at why tokens.now) }
+    ensures { IsTextResultOrMemory (λ x. (x.0, x.1.now)) result (named_at why tokens.now) }
 {
     match tokens {
         [(Kind::Name(_), span), rest @ ..] => Ok((*span, rest)),
@@ -67,7 +67,7 @@ pub(crate) fn name(tokens: &[Token], why: Why) -> Result<(Span, &[Token]), TextF
 
 /// A text in double quotes that has to be there, and the tokens after it.
 pub(crate) fn quoted(tokens: &[Token]) -> Result<(Span, &[Token]), TextFault>
-    ensures { Gives (λ x. (x.0, x.1.now)) result (quoted_at tokens.now) }
+    ensures { IsTextResultOrMemory (λ x. (x.0, x.1.now)) result (quoted_at tokens.now) }
 {
     match tokens {
         [(Kind::Quoted, span), rest @ ..] => Ok((*span, rest)),
@@ -110,7 +110,7 @@ pub(crate) fn is_end(tokens: &[Token]) -> bool
 
 /// The tokens after the end of a line, which has to be there.
 pub(crate) fn need_line(tokens: &[Token]) -> Result<&[Token], TextFault>
-    ensures { Gives (λ x. x.now) result (line_needed tokens.now) }
+    ensures { IsTextResultOrMemory (λ x. x.now) result (line_needed tokens.now) }
 {
     match tokens {
         [(Kind::Line, _), rest @ ..] => Ok(rest),

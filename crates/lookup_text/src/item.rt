@@ -1,8 +1,8 @@
 //! The items of an AIR.
 ghost use Rattle.std.specs.Prelude.{◌≡◌, ◌∷◌, [], length, map, option_map};
-ghost use Rattle.lookup_text.specs.Faults.{Gives};
+ghost use Rattle.lookup_text.specs.Faults.{IsTextResultOrMemory};
 ghost use Rattle.lookup_text.specs.Formulas.{formula_of};
-ghost use Rattle.lookup_text.specs.Items.{declaration_in, flag_at, item_at, item_in, item_of, let_at, more_name, more_part, names_at, part_at, part_of, parts_at, placed_of, public_at, when_needed};
+ghost use Rattle.lookup_text.specs.Items.{declaration_in, flag_at, item_at, item_in, item_of, let_at, more_name, more_part, names_at, part_at, group_part_of, parts_at, placed_of, public_at, when_needed};
 ghost use Rattle.lookup_text.specs.Lists.{many, with_front};
 
 use crate::fault::{Fault, TextFault, Why};
@@ -56,7 +56,7 @@ pub(crate) fn read_item(
     alloc: Global,
     tokens: &[Token],
 ) -> Result<(PlacedItem, &[Token]), TextFault>
-    ensures { Gives (λ x. (placed_of x.0, x.1.now)) result (item_at tokens.now) }
+    ensures { IsTextResultOrMemory (λ x. (placed_of x.0, x.1.now)) result (item_at tokens.now) }
 {
     let at = place(tokens);
     let (item, after) = read_kind(alloc, word(tokens), tokens)?;
@@ -66,7 +66,7 @@ pub(crate) fn read_item(
 /// An item that begins with this word.
 #[tactic(auto, unfolding(crate::specs::Items::item_in))]
 fn read_kind(alloc: Global, word: Word, tokens: &[Token]) -> Result<(ItemText, &[Token]), TextFault>
-    ensures { Gives (λ x. (item_of x.0, x.1.now)) result (item_in word tokens.now) }
+    ensures { IsTextResultOrMemory (λ x. (item_of x.0, x.1.now)) result (item_in word tokens.now) }
 {
     match word {
         Word::Query | Word::Provide | Word::Send | Word::Receive => {
@@ -92,7 +92,7 @@ fn read_declaration(
     word: Word,
     tokens: &[Token],
 ) -> Result<(ItemText, &[Token]), TextFault>
-    ensures { Gives (λ x. (item_of x.0, x.1.now)) result (declaration_in word tokens.now) }
+    ensures { IsTextResultOrMemory (λ x. (item_of x.0, x.1.now)) result (declaration_in word tokens.now) }
 {
     match word {
         Word::Trace => {
@@ -127,7 +127,7 @@ fn read_declaration(
 /// A public value with its name.
 #[tactic(auto, unfolding(crate::specs::Items::public_at))]
 fn read_public(tokens: &[Token]) -> Result<(ItemText, &[Token]), TextFault>
-    ensures { Gives (λ x. (item_of x.0, x.1.now)) result (public_at tokens.now) }
+    ensures { IsTextResultOrMemory (λ x. (item_of x.0, x.1.now)) result (public_at tokens.now) }
 {
     let (name, after) = name(tokens, Why::Name)?;
     let (value, after) = number(need(after, b'=')?)?;
@@ -137,7 +137,7 @@ fn read_public(tokens: &[Token]) -> Result<(ItemText, &[Token]), TextFault>
 /// An expression with its name.
 #[tactic(auto, unfolding(crate::specs::Items::let_at))]
 fn read_let(alloc: Global, tokens: &[Token]) -> Result<(ItemText, &[Token]), TextFault>
-    ensures { Gives (λ x. (item_of x.0, x.1.now)) result (let_at tokens.now) }
+    ensures { IsTextResultOrMemory (λ x. (item_of x.0, x.1.now)) result (let_at tokens.now) }
 {
     let (name, after) = name(tokens, Why::Name)?;
     let (value, after) = read_formula(alloc, need(after, b'=')?)?;
@@ -150,7 +150,7 @@ pub(crate) fn read_names(
     alloc: Global,
     tokens: &[Token],
 ) -> Result<(Vec<Span>, &[Token]), TextFault>
-    ensures { Gives (λ x. (x.0.items, x.1.now)) result (names_at tokens.now) }
+    ensures { IsTextResultOrMemory (λ x. (x.0.items, x.1.now)) result (names_at tokens.now) }
 {
     let (first, after) = name(tokens, Why::Name)?;
     more_names(alloc, first, after)
@@ -162,7 +162,7 @@ fn more_names(
     first: Span,
     tokens: &[Token],
 ) -> Result<(Vec<Span>, &[Token]), TextFault>
-    ensures { Gives (λ x. (x.0.items, x.1.now)) result
+    ensures { IsTextResultOrMemory (λ x. (x.0.items, x.1.now)) result
         (with_front (first ∷ []) (many more_name (length tokens.now) tokens.now)) }
 {
     let mut values = Vec::new(alloc);
@@ -185,7 +185,7 @@ fn more_names(
 /// One more name behind a comma, or none where a parenthesis closes.
 #[tactic(auto, unfolding(crate::specs::Items::more_name))]
 fn one_more_name(tokens: &[Token]) -> Result<(Option<Span>, &[Token]), TextFault>
-    ensures { Gives (λ x. (x.0, x.1.now)) result (more_name tokens.now) }
+    ensures { IsTextResultOrMemory (λ x. (x.0, x.1.now)) result (more_name tokens.now) }
 {
     match take(tokens, b',') {
         Some(after) => {
@@ -203,7 +203,7 @@ fn read_parts(
     exclusive: bool,
     tokens: &[Token],
 ) -> Result<(Vec<PartText>, &[Token]), TextFault>
-    ensures { Gives (λ x. (map part_of x.0.items, x.1.now)) result
+    ensures { IsTextResultOrMemory (λ x. (map group_part_of x.0.items, x.1.now)) result
         (parts_at exclusive tokens.now) }
 {
     all_parts(alloc, exclusive, need(tokens, b'{')?)
@@ -215,7 +215,7 @@ fn all_parts(
     exclusive: bool,
     tokens: &[Token],
 ) -> Result<(Vec<PartText>, &[Token]), TextFault>
-    ensures { Gives (λ x. (map part_of x.0.items, x.1.now)) result
+    ensures { IsTextResultOrMemory (λ x. (map group_part_of x.0.items, x.1.now)) result
         (many (more_part exclusive) (length tokens.now) tokens.now) }
 {
     let mut values = Vec::new(alloc);
@@ -241,7 +241,7 @@ fn one_more_part(
     exclusive: bool,
     tokens: &[Token],
 ) -> Result<(Option<PartText>, &[Token]), TextFault>
-    ensures { Gives (λ x. (option_map part_of x.0, x.1.now)) result
+    ensures { IsTextResultOrMemory (λ x. (option_map group_part_of x.0, x.1.now)) result
         (more_part exclusive tokens.now) }
 {
     let tokens = skip_lines(tokens);
@@ -261,7 +261,7 @@ fn read_part(
     exclusive: bool,
     tokens: &[Token],
 ) -> Result<(PartText, &[Token]), TextFault>
-    ensures { Gives (λ x. (part_of x.0, x.1.now)) result (part_at exclusive tokens.now) }
+    ensures { IsTextResultOrMemory (λ x. (group_part_of x.0, x.1.now)) result (part_at exclusive tokens.now) }
 {
     let (flag, after) = read_flag(alloc, exclusive, tokens)?;
     let (message, after) = read_message(alloc, after)?;
@@ -275,7 +275,7 @@ fn read_flag(
     exclusive: bool,
     tokens: &[Token],
 ) -> Result<(Option<Tree>, &[Token]), TextFault>
-    ensures { Gives (λ x. (option_map formula_of x.0, x.1.now)) result
+    ensures { IsTextResultOrMemory (λ x. (option_map formula_of x.0, x.1.now)) result
         (flag_at exclusive tokens.now) }
 {
     if exclusive {
@@ -289,7 +289,7 @@ fn read_flag(
 /// The tokens after `when`, which has to be there.
 #[tactic(auto, unfolding(crate::specs::Items::when_needed))]
 fn need_when(tokens: &[Token]) -> Result<&[Token], TextFault>
-    ensures { Gives (λ x. x.now) result (when_needed tokens.now) }
+    ensures { IsTextResultOrMemory (λ x. x.now) result (when_needed tokens.now) }
 {
     match word(tokens) {
         Word::When => Ok(rest(tokens)),

@@ -1,7 +1,7 @@
 //! The tokens of a text.
 ghost use Rattle.std.specs.Prelude.{◌≡◌, ◌<◌, length};
 ghost use Rattle.std.specs.Str.{bytes_eq};
-ghost use Rattle.lookup_text.specs.Faults.{Gives};
+ghost use Rattle.lookup_text.specs.Faults.{IsTextResultOrMemory};
 ghost use Rattle.lookup_text.specs.Lexemes.{begins_name, continues_name, is_blank, is_sign, lexeme_at, line_end_at, line_length, message_word, name_in, name_length, number_in, number_length, quoted_in, quoted_length, word_of};
 ghost use Rattle.lookup_text.specs.internal.Lexemes.{IsWithin};
 ghost use Rattle.lookup_text.specs.Tokens.{depth_after, tokens_of};
@@ -38,7 +38,7 @@ pub(crate) enum Lexeme {
 /// Refuses the first byte that begins no token, quote that is not closed on its line, or number
 /// of 2^64 or more.
 pub fn tokens(alloc: Global, text: &[u8]) -> Result<Vec<Token>, TextFault>
-    ensures { Gives (λ v. v.items) result (tokens_of text.now) }
+    ensures { IsTextResultOrMemory (λ v. v.items) result (tokens_of text.now) }
 {
     let mut found = Vec::new(alloc);
     let mut at = mark_length(text);

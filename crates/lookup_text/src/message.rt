@@ -1,9 +1,9 @@
 //! Messages: what a row sends on which bus, and how often.
 ghost use Rattle.std.specs.Prelude.{◌≡◌, ◌∷◌, [], length, map, option_map};
-ghost use Rattle.lookup_text.specs.Faults.{Gives};
+ghost use Rattle.lookup_text.specs.Faults.{IsTextResultOrMemory};
 ghost use Rattle.lookup_text.specs.Formulas.{formula_of};
 ghost use Rattle.lookup_text.specs.Lists.{many, with_front};
-ghost use Rattle.lookup_text.specs.Messages.{bus_at, count_at, message_at, message_of, most_at, most_needed, more_formula, tuple_at, verb_at};
+ghost use Rattle.lookup_text.specs.Messages.{message_bus_at, count_at, message_at, message_of, most_at, most_needed, more_formula, tuple_at, verb_at};
 
 use crate::fault::{Fault, TextFault, Why};
 use crate::formula::{Tree, read_formula};
@@ -42,7 +42,7 @@ pub(crate) fn read_message(
     alloc: Global,
     tokens: &[Token],
 ) -> Result<(MessageText, &[Token]), TextFault>
-    ensures { Gives (λ x. (message_of x.0, x.1.now)) result (message_at tokens.now) }
+    ensures { IsTextResultOrMemory (λ x. (message_of x.0, x.1.now)) result (message_at tokens.now) }
 {
     let at = place(tokens);
     let (verb, after) = read_verb(tokens)?;
@@ -64,7 +64,7 @@ pub(crate) fn read_message(
 
 #[tactic(auto, unfolding(crate::specs::Messages::verb_at))]
 fn read_verb(tokens: &[Token]) -> Result<(Verb, &[Token]), TextFault>
-    ensures { Gives (λ x. (x.0, x.1.now)) result (verb_at tokens.now) }
+    ensures { IsTextResultOrMemory (λ x. (x.0, x.1.now)) result (verb_at tokens.now) }
 {
     match word(tokens) {
         Word::Query => Ok((Verb::Query, rest(tokens))),
@@ -79,9 +79,9 @@ fn read_verb(tokens: &[Token]) -> Result<(Verb, &[Token]), TextFault>
 }
 
 /// The name of a bus, or `None` at `local`.
-#[tactic(auto, unfolding(crate::specs::Messages::bus_at))]
+#[tactic(auto, unfolding(crate::specs::Messages::message_bus_at))]
 fn read_bus(tokens: &[Token]) -> Result<(Option<Span>, &[Token]), TextFault>
-    ensures { Gives (λ x. (x.0, x.1.now)) result (bus_at tokens.now) }
+    ensures { IsTextResultOrMemory (λ x. (x.0, x.1.now)) result (message_bus_at tokens.now) }
 {
     match word(tokens) {
         Word::Local => Ok((None, rest(tokens))),
@@ -95,7 +95,7 @@ fn read_bus(tokens: &[Token]) -> Result<(Option<Span>, &[Token]), TextFault>
 /// Expressions between commas, and what stands after the parenthesis that closes them.
 #[tactic(auto, unfolding(crate::specs::Messages::tuple_at))]
 fn read_tuple(alloc: Global, tokens: &[Token]) -> Result<(Vec<Tree>, &[Token]), TextFault>
-    ensures { Gives (λ x. (map formula_of x.0.items, x.1.now)) result (tuple_at tokens.now) }
+    ensures { IsTextResultOrMemory (λ x. (map formula_of x.0.items, x.1.now)) result (tuple_at tokens.now) }
 {
     let (first, after) = read_formula(alloc, tokens)?;
     more_values(alloc, first, after)
@@ -107,7 +107,7 @@ fn more_values(
     first: Tree,
     tokens: &[Token],
 ) -> Result<(Vec<Tree>, &[Token]), TextFault>
-    ensures { Gives (λ x. (map formula_of x.0.items, x.1.now)) result
+    ensures { IsTextResultOrMemory (λ x. (map formula_of x.0.items, x.1.now)) result
         (with_front (formula_of first ∷ []) (many more_formula (length tokens.now) tokens.now)) }
 {
     let mut values = Vec::new(alloc);
@@ -130,7 +130,7 @@ fn more_values(
 /// One more expression behind a comma, or none where a parenthesis closes.
 #[tactic(auto, unfolding(crate::specs::Messages::more_formula))]
 fn one_more(alloc: Global, tokens: &[Token]) -> Result<(Option<Tree>, &[Token]), TextFault>
-    ensures { Gives (λ x. (option_map formula_of x.0, x.1.now)) result (more_formula tokens.now) }
+    ensures { IsTextResultOrMemory (λ x. (option_map formula_of x.0, x.1.now)) result (more_formula tokens.now) }
 {
     match take(tokens, b',') {
         Some(after) => {
@@ -147,7 +147,7 @@ fn read_count(
     alloc: Global,
     tokens: &[Token],
 ) -> Result<(Option<Tree>, Option<u64>, &[Token]), TextFault>
-    ensures { Gives (λ x. ((option_map formula_of x.0, x.1), x.2.now)) result
+    ensures { IsTextResultOrMemory (λ x. ((option_map formula_of x.0, x.1), x.2.now)) result
         (count_at tokens.now) }
 {
     match word(tokens) {
@@ -163,7 +163,7 @@ fn read_count(
 /// The most that a message counts, where `at most` says it.
 #[tactic(auto, unfolding(crate::specs::Messages::most_at))]
 fn read_most(tokens: &[Token]) -> Result<(Option<u64>, &[Token]), TextFault>
-    ensures { Gives (λ x. (x.0, x.1.now)) result (most_at tokens.now) }
+    ensures { IsTextResultOrMemory (λ x. (x.0, x.1.now)) result (most_at tokens.now) }
 {
     match word(tokens) {
         Word::At => {
@@ -177,7 +177,7 @@ fn read_most(tokens: &[Token]) -> Result<(Option<u64>, &[Token]), TextFault>
 /// The tokens after `most`, which has to be there.
 #[tactic(auto, unfolding(crate::specs::Messages::most_needed))]
 fn need_most(tokens: &[Token]) -> Result<&[Token], TextFault>
-    ensures { Gives (λ x. x.now) result (most_needed tokens.now) }
+    ensures { IsTextResultOrMemory (λ x. x.now) result (most_needed tokens.now) }
 {
     match word(tokens) {
         Word::Most => Ok(rest(tokens)),

@@ -1,7 +1,7 @@
 //! Decimal numbers.
 ghost use Rattle.std.specs.Prelude.{◌≡◌, ℕ, ◌+◌, ◌*◌};
 ghost use Rattle.std.specs.Char.{IsAsciiDigit, digit_value};
-ghost use Rattle.lookup_text.specs.Numbers.{decimal_of, short};
+ghost use Rattle.lookup_text.specs.Numbers.{decimal_of, short_number};
 
 /// The number that a word writes in decimal digits.
 #[derive(Debug, Clone, Copy, PartialEq, Eq)]
@@ -37,7 +37,7 @@ pub(crate) fn read_decimal(word: &[u8]) -> Decimal
 /// A number with one more digit, or `None` where it is 2^64 or more.
 fn more(value: Option<u64>, digit: u8) -> Option<u64>
     requires { IsAsciiDigit digit }
-    ensures { (n : ℕ) → value ≡ short n → result ≡ short (n * 10 + digit_value digit) }
+    ensures { (n : ℕ) → value ≡ short_number n → result ≡ short_number (n * 10 + digit_value digit) }
 {
     match value {
         Some(value) => match value.checked_mul(10) {

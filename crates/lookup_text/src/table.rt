@@ -2,8 +2,8 @@
 ghost use Rattle.std.specs.Prelude.{◌≡◌, ◌+◌, ◌-◌, ◌<◌, ◌^◌, ◌∷◌, drop, length, option_map};
 ghost use Rattle.std.specs.List.{list_any};
 ghost use Rattle.std.specs.Str.{bytes_eq};
-ghost use Rattle.lookup_text.specs.Faults.{Gives};
-ghost use Rattle.lookup_text.specs.Tables.{cell_at, cells_of, header_at, lines_of, names_of, residue_at, row_at, rows_at, table_at, table_of, without_return};
+ghost use Rattle.lookup_text.specs.Faults.{IsTextResultOrMemory};
+ghost use Rattle.lookup_text.specs.Tables.{cell_at, cells_of_line, header_at, lines_of, names_of, residue_at, row_at, rows_at, table_at, table_of, without_return};
 ghost use Rattle.lookup_text.specs.internal.Tables.{IsAfter, cell_length, cells_in, with_numbers};
 
 use crate::fault::{Fault, TextFault, Why};
@@ -32,7 +32,7 @@ pub struct Table {
 /// stood before, a cell that is no such number, or a line with a cell too few or too many.
 #[tactic(auto, unfolding(crate::specs::Tables::table_at))]
 pub fn read_table(alloc: Global, text: &[u8], modulus: u64) -> Result<Table, TextFault>
-    ensures { Gives table_of result (table_at modulus text.now) }
+    ensures { IsTextResultOrMemory table_of result (table_at modulus text.now) }
 {
     let mark = mark_length(text);
     let text = &text[mark..];
@@ -51,7 +51,7 @@ pub fn read_table(alloc: Global, text: &[u8], modulus: u64) -> Result<Table, Tex
 /// The names of the columns.
 fn read_header(alloc: Global, line: &[u8], at: usize) -> Result<Vec<Vec<u8>>, TextFault>
     requires { at + length line.now < 2 ^ 64 - 1 }
-    ensures { Gives (λ v. names_of v.items) result (header_at at line.now) }
+    ensures { IsTextResultOrMemory (λ v. names_of v.items) result (header_at at line.now) }
 {
     if line.is_empty() {
         return Err(TextFault::Fault(Fault {
@@ -99,7 +99,7 @@ fn read_rows(
     modulus: u64,
 ) -> Result<Vec<u64>, TextFault>
     requires { at + length text.now < 2 ^ 64 - 2 }
-    ensures { Gives (λ v. v.items) result (rows_at modulus width at (lines_of text.now)) }
+    ensures { IsTextResultOrMemory (λ v. v.items) result (rows_at modulus width at (lines_of text.now)) }
 {
     let mut cells = Vec::new(alloc);
     let mut rest = text;
@@ -122,8 +122,8 @@ fn push_row(
     modulus: u64,
 ) -> Result<(), TextFault>
     requires { at + length line.now < 2 ^ 64 - 1 }
-    ensures { Gives (λ _. cells.new.items) result
-        (with_numbers cells.old.items (row_at modulus at width (cells_of line.now))) }
+    ensures { IsTextResultOrMemory (λ _. cells.new.items) result
+        (with_numbers cells.old.items (row_at modulus at width (cells_of_line line.now))) }
 {
     let mut rest = Some(line);
     let mut at = at;
@@ -151,7 +151,7 @@ fn push_row(
 /// The number of a cell.
 #[tactic(auto, unfolding(crate::specs::Tables::cell_at))]
 fn read_cell(cell: &[u8], at: usize, modulus: u64) -> Result<u64, TextFault>
-    ensures { Gives (λ n. n) result (cell_at modulus at cell.now) }
+    ensures { IsTextResultOrMemory (λ n. n) result (cell_at modulus at cell.now) }
 {
     match cell {
         [b'-', digits @ ..] => residue(read_decimal(digits), true, at, modulus),
@@ -161,7 +161,7 @@ fn read_cell(cell: &[u8], at: usize, modulus: u64) -> Result<u64, TextFault>
 
 /// A number below the modulus, or its negative.
 fn residue(number: Decimal, negative: bool, at: usize, modulus: u64) -> Result<u64, TextFault>
-    ensures { Gives (λ n. n) result (residue_at modulus at negative number) }
+    ensures { IsTextResultOrMemory (λ n. n) result (residue_at modulus at negative number) }
 {
     match number {
         Decimal::Value(value) => {
@@ -189,7 +189,7 @@ fn residue(number: Decimal, negative: bool, at: usize, modulus: u64) -> Result<u
 
 /// The first cell of a line, and the rest behind a comma.
 fn split_cell(line: &[u8]) -> (&[u8], Option<&[u8]>)
-    ensures cells { cells_of line.now
+    ensures cells { cells_of_line line.now
         ≡ result.0.now ∷ cells_in (option_map (λ x. x.now) result.1) }
     ensures within { IsAfter (length line.now) (length result.0.now)
         (option_map (λ x. x.now) result.1) }

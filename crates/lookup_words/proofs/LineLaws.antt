@@ -7,7 +7,7 @@ use Rattle.clap.specs.declared.builder.command.Command.{Command}
 use Rattle.clap.specs.declared.error.Error.{Error}
 use Rattle.clap.specs.declared.parser.matches.ArgMatches.{ArgMatches}
 use Rattle.clap.proofs.OnLiterals.{clap_on_literals}
-use Rattle.lookup_words.specs.Line.{Names, line_app}
+use Rattle.lookup_words.specs.Line.{NameList, line_app}
 use Rattle.lookup_words.specs.internal.Commands.{IsArg, IsCommand}
 use Rattle.lookup_words.specs.internal.Refusals.{IsMistake, TellsKind}
 use Rattle.lookup_words.specs.Words.{AsksNothing, IsRefused}
@@ -31,11 +31,11 @@ with_command old sub new app sub_app adds is sub_is = record {
 }
 
 -- `clap` gives the exact matches and faults of the program's commands
-pub line_is_simple : (fields : Names) → is_simple_and_free (line_app fields) ≡ true
+pub line_is_simple : (fields : NameList) → is_simple_and_free (line_app fields) ≡ true
 unfolding clap_on_literals
 line_is_simple fields = refl
 
-line_is_walked : (fields : Names) → is_simple (line_app fields) ≡ true
+line_is_walked : (fields : NameList) → is_simple (line_app fields) ≡ true
 unfolding clap_on_literals
 line_is_walked fields = refl
 
@@ -55,20 +55,20 @@ no_request_refuses app words (Help text) is none = absurd is
 no_request_refuses app words (Told text) is none = inr none
 
 -- the same of the error of a parse, by what `clap` says of its kinds
-pub parse_refuses : (fields : Names) (app : App) (words : List Text) (e : Error) (r : WordsRefusal) → app ≡ line_app fields
+pub parse_refuses : (fields : NameList) (app : App) (words : List Text) (e : Error) (r : WordsRefusal) → app ≡ line_app fields
     → (is_simple_and_free app ≡ true → HasKind (fault_of app words) e) → TellsKind (kind_of e) r → IsRefused (line_app fields) words r
 parse_refuses fields app words e r same has tells =
     let free : is_simple_and_free app ≡ true = ap is_simple_and_free same ∙ line_is_simple fields in
     error_refuses (line_app fields) words e r (subst (λ (a : App). HasKind (fault_of a words) e) same (has free)) tells
 
 -- a parse that succeeds meets no fault
-pub no_fault : (fields : Names) (app : App) (words : List Text) → app ≡ line_app fields → (is_simple_and_free app ≡ true → fault_of app words ≡ [])
+pub no_fault : (fields : NameList) (app : App) (words : List Text) → app ≡ line_app fields → (is_simple_and_free app ≡ true → fault_of app words ≡ [])
     → fault_of (line_app fields) words ≡ []
 no_fault fields app words same none =
     subst (λ (a : App). fault_of a words ≡ []) same (none (ap is_simple_and_free same ∙ line_is_simple fields))
 
 -- and its subcommand is that of the words
-pub same_subcommand : (fields : Names) (app : App) (words : List Text) (m : ArgMatches) → app ≡ line_app fields → HasMatchesOf app words m
+pub same_subcommand : (fields : NameList) (app : App) (words : List Text) (m : ArgMatches) → app ≡ line_app fields → HasMatchesOf app words m
     → subcommand_rows_of m ≡ subcommand_of (line_app fields) words
 same_subcommand fields app words m same has =
     let free : is_simple app ≡ true = ap is_simple same ∙ line_is_walked fields in

@@ -6,8 +6,8 @@ use Rattle.clap.specs.declared.builder.action.ArgAction.TheVariants.{SetTrue}
 use Rattle.clap.specs.declared.builder.value_parser.ValueParser.TheVariants as parser
 
 -- a list of names, behind references
-abbrev pub Names : Type 0
-Names = Bor (List (Bor Text))
+abbrev pub NameList : Type 0
+NameList = Bor (List (Bor Text))
 
 -- ---- arguments
 
@@ -16,7 +16,7 @@ abbrev pub file_rule : Rule
 file_rule = record (new_rule (codes "file")) { required = true; value_names = 1 }
 
 -- the field of a batch, by one of these names
-abbrev pub field_rule : Names → Rule
+abbrev pub field_rule : NameList → Rule
 field_rule fields = record (new_rule (codes "field")) {
   long = Some (codes "field");
   value_names = 1;
@@ -99,43 +99,43 @@ abbrev pub with_rules : App → List Rule → App
 with_rules app rules = fold with_rule app rules
 
 -- `NAME FILE [--field NAME] [--progress]`, over one of the fields
-abbrev pub file_app : Text → Names → App
+abbrev pub file_app : Text → NameList → App
 file_app name fields =
     with_rules (new_app name) (file_rule ∷ field_rule fields ∷ progress_rule ∷ [])
 
 -- `check FILE .. [--limit N] [--degree D] [--json]`
-abbrev pub check_app : Names → App
+abbrev pub check_app : NameList → App
 check_app fields =
     with_rules (file_app (codes "check") fields) (limit_rule ∷ degree_rule ∷ json_rule ∷ [])
 
 -- `plan FILE .. [--degree D] [--json] [--target B]`
-abbrev pub plan_app : Names → App
+abbrev pub plan_app : NameList → App
 plan_app fields =
     with_rules (file_app (codes "plan") fields) (degree_rule ∷ json_rule ∷ target_rule ∷ [])
 
 -- `pack FILE .. --degree D [--json]`
-abbrev pub pack_app : Names → App
+abbrev pub pack_app : NameList → App
 pack_app fields =
     with_rules (file_app (codes "pack") fields) (wanted_degree_rule ∷ json_rule ∷ [])
 
 -- `show FILE .. [--json]`
-abbrev pub show_app : Names → App
+abbrev pub show_app : NameList → App
 show_app fields = with_rules (file_app (codes "show") fields) (json_rule ∷ [])
 
 -- `NAME FILE .. --alpha A --beta B`
-abbrev pub challenge_app : Text → Names → App
+abbrev pub challenge_app : Text → NameList → App
 challenge_app name fields = with_rules (file_app name fields) (alpha_rule ∷ beta_rule ∷ [])
 
 -- `witness FILE .. --alpha A --beta B [--out FILE]`
-abbrev pub witness_app : Names → App
+abbrev pub witness_app : NameList → App
 witness_app fields = with_rules (challenge_app (codes "witness") fields) (out_rule ∷ [])
 
 -- `accept FILE .. --alpha A --beta B --witness FILE`
-abbrev pub accept_app : Names → App
+abbrev pub accept_app : NameList → App
 accept_app fields = with_rules (challenge_app (codes "accept") fields) (witness_rule ∷ [])
 
 -- `any FILE .. --alpha A --beta B`
-abbrev pub any_app : Names → App
+abbrev pub any_app : NameList → App
 any_app fields = challenge_app (codes "any") fields
 
 -- `bits --messages N [--unbalanced K] [--width W]`
@@ -144,7 +144,7 @@ message_bits_app =
     with_rules (new_app (codes "bits")) (messages_rule ∷ unbalanced_rule ∷ width_rule ∷ [])
 
 -- the same, and `[--field NAME] [--target B] [--json]`
-abbrev pub bits_app : Names → App
+abbrev pub bits_app : NameList → App
 bits_app fields =
     with_rules message_bits_app (field_rule fields ∷ target_rule ∷ json_rule ∷ [])
 
@@ -164,12 +164,12 @@ abbrev pub with_commands : App → List App → App
 with_commands app commands = fold (λ a command. with_subcommand a command.top) app commands
 
 -- the program, with its commands up to `show`
-abbrev pub app_to_show : Names → App
+abbrev pub app_to_show : NameList → App
 app_to_show fields = with_commands bare_app
     (check_app fields ∷ plan_app fields ∷ pack_app fields ∷ show_app fields ∷ [])
 
 -- the program
-abbrev pub line_app : Names → App
+abbrev pub line_app : NameList → App
 line_app fields = with_commands (app_to_show fields)
     (witness_app fields ∷ accept_app fields ∷ any_app fields ∷ bits_app fields ∷ [])
 
@@ -179,5 +179,5 @@ field_names =
     codes "f7" ∷ codes "babybear4" ∷ codes "koalabear4" ∷ codes "goldilocks2" ∷ []
 
 -- these are the names that `--field` takes
-abbrev pub HasFieldNames : Names → Type 0
+abbrev pub HasFieldNames : NameList → Type 0
 HasFieldNames fields = map (λ name. name.now) fields.now ≡ field_names

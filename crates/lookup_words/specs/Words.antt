@@ -58,8 +58,8 @@ abbrev pub HasField : List Row → FieldName → Type 0
 HasField rows field = HasText rows (codes "field") (field_text field)
 
 -- the flag is set exactly if this is true
-abbrev pub HasFlag : List Row → Text → Bool → Type 0
-HasFlag rows id is_set = IsTrue is_set ↔ HasText rows id (codes "true")
+abbrev pub HasFlagArgument : List Row → Text → Bool → Type 0
+HasFlagArgument rows id is_set = IsTrue is_set ↔ HasText rows id (codes "true")
 
 -- ---- of the values of a command's arguments
 
@@ -72,13 +72,13 @@ HasChallenges rows words = HasText rows (codes "alpha") words.alpha.now
 abbrev pub IsTask : Text → List Row → Task → Type 0
 IsTask name rows (Check limit degree json) = (name ≡ codes "check")
     × HasNumber rows (codes "limit") limit × HasNumber rows (codes "degree") degree
-    × HasFlag rows (codes "json") json
+    × HasFlagArgument rows (codes "json") json
 IsTask name rows (Plan degree json target) = (name ≡ codes "plan")
-    × HasNumber rows (codes "degree") degree × HasFlag rows (codes "json") json
+    × HasNumber rows (codes "degree") degree × HasFlagArgument rows (codes "json") json
     × HasOptionalNumber rows (codes "target") target
 IsTask name rows (Pack degree json) = (name ≡ codes "pack")
-    × HasNumber rows (codes "degree") degree × HasFlag rows (codes "json") json
-IsTask name rows (Show json) = (name ≡ codes "show") × HasFlag rows (codes "json") json
+    × HasNumber rows (codes "degree") degree × HasFlagArgument rows (codes "json") json
+IsTask name rows (Show json) = (name ≡ codes "show") × HasFlagArgument rows (codes "json") json
 IsTask name rows (Witness challenges out) = (name ≡ codes "witness")
     × HasChallenges rows challenges × HasOptionalText rows (codes "out") out
 IsTask name rows (Accept challenges witness) = (name ≡ codes "accept")
@@ -88,7 +88,7 @@ IsTask name rows (Any challenges) = (name ≡ codes "any") × HasChallenges rows
 -- the command `name` is this request about a file
 abbrev pub IsBatch : Text → List Row → BatchRequest → Type 0
 IsBatch name rows x = HasText rows (codes "file") x.file.now × HasField rows x.field
-    × HasFlag rows (codes "progress") x.progress × IsTask name rows x.task
+    × HasFlagArgument rows (codes "progress") x.progress × IsTask name rows x.task
 
 -- the command `bits` is this request
 abbrev pub IsBits : List Row → BitsRequest → Type 0
@@ -96,16 +96,16 @@ IsBits rows x = HasNumber rows (codes "messages") x.messages
     × HasNumberOr rows (codes "unbalanced") x.messages x.unbalanced
     × HasNumber rows (codes "width") x.width × (x.unbalanced ≤ x.messages)
     × HasField rows x.field × HasOptionalNumber rows (codes "target") x.target
-    × HasFlag rows (codes "json") x.json
+    × HasFlagArgument rows (codes "json") x.json
 
 -- the command `name`, where its arguments have the values of rows, is this request
-abbrev pub Means : Text → List Row → Asked → Type 0
-Means name rows (Batch x) = IsBatch name rows x
-Means name rows (Bits x) = (name ≡ codes "bits") × IsBits rows x
+abbrev pub MeansRequest : Text → List Row → Asked → Type 0
+MeansRequest name rows (Batch x) = IsBatch name rows x
+MeansRequest name rows (Bits x) = (name ≡ codes "bits") × IsBits rows x
 
 -- the command that was met, with the values of its arguments, is this request
 abbrev pub Asks : Option (Text × List Row) → Asked → Type 0
-Asks met x = IsSomeAnd met (λ p. Means p.0 p.1 x)
+Asks met x = IsSomeAnd met (λ p. MeansRequest p.0 p.1 x)
 
 -- ---- of all words
 

@@ -1,7 +1,7 @@
 //! A command line, from its words to its request.
 ghost use Rattle.std.specs.Prelude.{MatchResult, map};
 ghost use Rattle.std.specs.String.{string_bytes};
-ghost use Rattle.lookup_words.specs.Line.{HasFieldNames, Names, line_app};
+ghost use Rattle.lookup_words.specs.Line.{HasFieldNames, NameList, line_app};
 ghost use Rattle.lookup_words.specs.Words.{IsAsked, IsRefused};
 
 use crate::commands::command_line;
@@ -21,7 +21,7 @@ static FIELDS: [&str; 4] = ["f7", "babybear4", "koalabear4", "goldilocks2"];
 /// wrong. Any call may run out of memory instead. Left to tests are the texts, and that a value
 /// which `clap` asks for is there where it finds no fault.
 pub fn asked<'a>(alloc: Global, words: &'a [String]) -> Result<Asked<'a>, WordsRefusal>
-    ensures { (fields : Names) × HasFieldNames fields × MatchResult result
+    ensures { (fields : NameList) × HasFieldNames fields × MatchResult result
         (IsAsked (line_app fields) (map string_bytes words.now))
         (IsRefused (line_app fields) (map string_bytes words.now)) }
 {

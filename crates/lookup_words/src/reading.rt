@@ -1,7 +1,7 @@
 //! From what `clap` found to a request.
 ghost use Rattle.std.specs.Prelude.{ℕ, Option, MatchOption, codes};
 ghost use Rattle.clap.specs.Words.{found_of, rows_of, subcommand_rows_of};
-ghost use Rattle.lookup_words.specs.Words.{HasChallenges, HasField, HasFlag, HasNumber};
+ghost use Rattle.lookup_words.specs.Words.{HasChallenges, HasField, HasFlagArgument, HasNumber};
 ghost use Rattle.lookup_words.specs.Words.{HasNumberOr, HasOptionalNumber, HasOptionalText};
 ghost use Rattle.lookup_words.specs.Words.{IsBatch, IsBits};
 ghost use Rattle.lookup_words.specs.internal.Readings.{ReadsMet, ReadsTask};
@@ -181,7 +181,7 @@ fn optional_number_of(found: &ArgMatches<'_>, id: &str) -> Option<Option<u64>>
 }
 
 fn is_set(found: &ArgMatches<'_>, id: &str) -> bool
-    ensures { HasFlag (rows_of (found_of found.now)) id.now result }
+    ensures { HasFlagArgument (rows_of (found_of found.now)) id.now result }
 {
     match text_of(found, id) {
         Some(text) => text == "true",

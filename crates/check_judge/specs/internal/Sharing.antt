@@ -3,7 +3,7 @@ use Rattle.std.specs.Prelude.{◌≡◌, ◌<◌, ℕ, List, ◌++◌, length, m
 use Rattle.std.specs.List.{AllByRecursion, flat_map, sum_by}
 use Rattle.lookup.specs.Buses.{bus_names, on_bus}
 use Rattle.lookup.specs.Cuts.{IsCut, part_items}
-use Rattle.lookup.specs.Packing.{additive, passing}
+use Rattle.lookup.specs.Packing.{additive_lookups, passing}
 use Rattle.lookup_model.specs.Outline.{Outline, outline_of}
 use Rattle.lookup_model.specs.declared.types.Lookup.{Lookup}
 use Rattle.check_judge.specs.Found.{Sized}
@@ -12,7 +12,7 @@ use Rattle.check_judge.specs.declared.sharing.LookupTuples.{LookupTuples}
 module _ {E : Type 0} where
   -- the lookups in that order: what passes through, and then the others, bus by bus
   abbrev pub in_packing_order : List (Outline E) → List (Outline E)
-  in_packing_order os = passing os ++ flat_map (λ name. on_bus name (additive os)) (bus_names (additive os))
+  in_packing_order os = passing os ++ flat_map (λ name. on_bus name (additive_lookups os)) (bus_names (additive_lookups os))
 
   -- the number of a lookup, and how many tuples it has
   abbrev pub tuples_of : Outline E → LookupTuples

@@ -8,8 +8,8 @@ abbrev pub row_in_whole : ℕ → ℕ → ℕ → ℕ
 row_in_whole from to row = min ((row - from) + to) (2 ^ 64 - 1)
 
 -- a fault under its row in the whole trace
-abbrev pub renumbered : ℕ → ℕ → LookupError → LookupError
-renumbered from to (VanishingDenominator row lookup) = VanishingDenominator (row_in_whole from to row) lookup
-renumbered from to (FlagNotBoolean row lookup) = FlagNotBoolean (row_in_whole from to row) lookup
-renumbered from to (FlagsNotExclusive row lookup) = FlagsNotExclusive (row_in_whole from to row) lookup
-renumbered from to error = error
+abbrev pub renumbered_fault : ℕ → ℕ → LookupError → LookupError
+renumbered_fault from to (VanishingDenominator row lookup) = VanishingDenominator (row_in_whole from to row) lookup
+renumbered_fault from to (FlagNotBoolean row lookup) = FlagNotBoolean (row_in_whole from to row) lookup
+renumbered_fault from to (FlagsNotExclusive row lookup) = FlagsNotExclusive (row_in_whole from to row) lookup
+renumbered_fault from to error = error

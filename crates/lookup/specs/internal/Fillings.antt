@@ -9,7 +9,7 @@ use Rattle.lookup_model.specs.Outline.{Outline, fields_of}
 use Rattle.lookup_model.specs.declared.error.LookupError.{LookupError}
 use Rattle.lookup_model.specs.declared.error.LookupError.TheVariants.{Memory}
 use Rattle.lookup.specs.Buses.{bus_groups}
-use Rattle.lookup.specs.Packing.{IsFilling, IsStuck, joined}
+use Rattle.lookup.specs.Packing.{IsFilling, IsStuck, joined_lookup}
 use Rattle.lookup.specs.Trials.{IsMember}
 use Rattle.lookup.specs.declared.packing.filling.Bus.{Bus}
 
@@ -17,7 +17,7 @@ use Rattle.lookup.specs.declared.packing.filling.Bus.{Bus}
 pub record AreGreedyColumns {E : Type 0} (answers : Outline E → Result ℕ LookupError → Type 0) (max_degree : ℕ) (seen columns : List (Outline E)) : Type 0 where
   pub cut : List (Outline E × List (Outline E))
   pub filling : IsFilling answers max_degree cut seen
-  pub columns_are : columns ≡ map joined cut
+  pub columns_are : columns ≡ map joined_lookup cut
 
 module _ {F K : Type 0} where
   -- the columns of a bus: those that are closed, and then the open one

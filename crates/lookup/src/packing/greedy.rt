@@ -9,7 +9,7 @@ ghost use Rattle.lookup_model.specs.Records.{AreRecords, HasEqualLengths};
 ghost use Rattle.lookup.specs.Buses.{bus_groups, on_bus};
 ghost use Rattle.lookup.specs.Fewest.{AnswersDegree};
 ghost use Rattle.lookup.specs.KeptByPacking.{KeepsSent};
-ghost use Rattle.lookup.specs.Packing.{Packs, additive, is_additive, numbered, passing};
+ghost use Rattle.lookup.specs.Packing.{Packs, additive_lookups, is_additive, numbered_lookups, passing};
 ghost use Rattle.lookup.specs.Trials.{AnswersTrial, IsBusTrial, IsMember, IsTrialAmong};
 ghost use Rattle.lookup.specs.internal.Fillings.{AreFilledBuses, IsFilled};
 
@@ -114,7 +114,7 @@ fn fill_buses<F: Field, T: TrialDegrees<F>>(
     ensures { IfOk result (λ r. (map fields_of r.0.items ≡ passing (map fields_of lookups.items))
         × All HasEqualLengths r.0.items
         × AllZip (IsFilled (T.keeps degrees.now) (T.answers degrees.now) max_degree)
-        (map (λ g. g.1) (bus_groups (additive (map fields_of lookups.items)))) r.1.items) }
+        (map (λ g. g.1) (bus_groups (additive_lookups (map fields_of lookups.items)))) r.1.items) }
 {
     let mut columns = Vec::new(alloc);
     let mut buses = IndexMap::new(alloc);
@@ -198,7 +198,7 @@ pub fn may_be_joined<F: Field>(lookup: &Lookup<F>) -> bool
 /// The lookups in the columns 0, 1, 2, …
 fn in_columns<F: Field>(lookups: Vec<Lookup<F>>) -> Vec<Lookup<F>>
     requires { All HasEqualLengths lookups.items }
-    ensures fields { map fields_of result.items ≡ numbered (map fields_of lookups.items) }
+    ensures fields { map fields_of result.items ≡ numbered_lookups (map fields_of lookups.items) }
     ensures records { AreRecords result.items }
 {
     let mut lookups = lookups;

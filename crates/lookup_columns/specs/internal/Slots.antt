@@ -14,18 +14,18 @@ module _ {F : Type 0} where
   last_of (x ∷ xs) = x
 
   -- the other slots
-  abbrev pub without_last : List (List F) → List (List F)
-  without_last [] = []
-  without_last (x ∷ xs) = xs
+  abbrev pub slots_before_last : List (List F) → List (List F)
+  slots_before_last [] = []
+  slots_before_last (x ∷ xs) = xs
 
   -- the last two slots, taken together row by row by an operation, in place of both
   abbrev pub last_two_joined : (F → F → F) → List (List F) → List (List F)
-  last_two_joined f s = map (λ p. f p.0 p.1) (zip (last_of (without_last s)) (last_of s)) ∷ without_last (without_last s)
+  last_two_joined f s = map (λ p. f p.0 p.1) (zip (last_of (slots_before_last s)) (last_of s)) ∷ slots_before_last (slots_before_last s)
 
   -- the slots after a step on these rows
-  abbrev pub after : Ring F → (ℕ → Window F) → List ℕ → Step F → List (List F) → List (List F)
-  after R window rows (Leaf l) s = leaf_column R window rows l ∷ s
-  after R window rows Add s = last_two_joined R.add s
-  after R window rows Sub s = last_two_joined (sub_in R) s
-  after R window rows Mul s = last_two_joined R.mul s
-  after R window rows Neg s = map R.neg (last_of s) ∷ without_last s
+  abbrev pub slots_after_step : Ring F → (ℕ → Window F) → List ℕ → Step F → List (List F) → List (List F)
+  slots_after_step R window rows (Leaf l) s = leaf_column R window rows l ∷ s
+  slots_after_step R window rows Add s = last_two_joined R.add s
+  slots_after_step R window rows Sub s = last_two_joined (sub_in R) s
+  slots_after_step R window rows Mul s = last_two_joined R.mul s
+  slots_after_step R window rows Neg s = map R.neg (last_of s) ∷ slots_before_last s

@@ -5,7 +5,7 @@ use Rattle.std.proofs.Common.{◌∙◌, append_assoc, subst, sym}
 use Rattle.std.proofs.lemmas.List.{append-nil}
 use Rattle.field.specs.Ring.{Ring}
 use Rattle.indexmap.specs.IndexMap.{index_map_len}
-use Rattle.lookup_debug.specs.BusTable.{TupleEntry, capped, entry_of, tuple_places}
+use Rattle.lookup_debug.specs.BusTable.{TupleEntry, saturated_usize, entry_of, tuple_places}
 use Rattle.lookup_debug.specs.Contributions.{Contribution}
 use Rattle.lookup_debug.specs.declared.places.TuplePlaces.{TuplePlaces}
 use Rattle.lookup_debug.specs.internal.Walks.{IsWalk}
@@ -20,7 +20,7 @@ module _ {F : Type 0} (R : Ring F) (eq : F → F → Bool) where
   placed_entry limit cs e = record {
     tuple = e.0.now;
     net = e.1;
-    place_count = capped (length (tuple_places R eq cs e.0.now));
+    place_count = saturated_usize (length (tuple_places R eq cs e.0.now));
     places = take limit (tuple_places R eq cs e.0.now);
   }
 

@@ -6,7 +6,7 @@ use Rattle.std.proofs.Math.Nat.{min-eq_left, min-le_right}
 use Rattle.std.proofs.lemmas.List.{map-append}
 use Rattle.std.proofs.lemmas.List.Elements.{filter-append}
 use Rattle.field.specs.Ring.{Ring}
-use Rattle.lookup_debug.specs.BusTable.{capped}
+use Rattle.lookup_debug.specs.BusTable.{saturated_usize}
 use Rattle.lookup_debug.specs.Contributions.{Contribution}
 use Rattle.lookup_debug.specs.declared.tally.Tally.{Tally}
 use Rattle.lookup_debug.specs.internal.Appended.{Collects}
@@ -23,21 +23,21 @@ pub record IsReady {F : Type 0} (t : Tally F) : Type 0 where
 -- the numbers of amounts that are not negative, and that are
 abbrev pub AreSignCounts : {F : Type 0} → (F → Bool) → List F → ℕ → ℕ → Type 0
 AreSignCounts negative amounts sent received =
-    (sent ≡ capped (length (filter (λ a. not (negative a)) amounts))) × (received ≡ capped (length (filter negative amounts)))
+    (sent ≡ saturated_usize (length (filter (λ a. not (negative a)) amounts))) × (received ≡ saturated_usize (length (filter negative amounts)))
 
 -- After some amounts are counted the numbers are greater by how many of them are negative, or not.
 pub record Counts {F : Type 0} (negative : F → Bool) (before after : Tally F) (amounts : List F) : Type 0 where
-  pub sent : after.sent ≡ capped (before.sent + length (filter (λ a. not (negative a)) amounts))
-  pub received : after.received ≡ capped (before.received + length (filter negative amounts))
+  pub sent : after.sent ≡ saturated_usize (before.sent + length (filter (λ a. not (negative a)) amounts))
+  pub received : after.received ≡ saturated_usize (before.received + length (filter negative amounts))
 
 -- numbers that are capped
-pub capped-within : (n : ℕ) → capped n ≤ 2 ^ 64 - 1
+pub capped-within : (n : ℕ) → saturated_usize n ≤ 2 ^ 64 - 1
 capped-within n = min-le_right n (2 ^ 64 - 1)
 
-pub capped-none : (n : ℕ) → n ≤ 2 ^ 64 - 1 → n ≡ capped (n + 0)
-capped-none n le = sym (ap capped (add-zero n) ∙ min-eq_left le)
+pub capped-none : (n : ℕ) → n ≤ 2 ^ 64 - 1 → n ≡ saturated_usize (n + 0)
+capped-none n le = sym (ap saturated_usize (add-zero n) ∙ min-eq_left le)
 
-pub capped-twice : (n x y z : ℕ) → z ≡ x + y → capped (capped (n + x) + y) ≡ capped (n + z)
+pub capped-twice : (n x y z : ℕ) → z ≡ x + y → saturated_usize (saturated_usize (n + x) + y) ≡ saturated_usize (n + z)
 capped-twice n x y z e = omega arith
 
 module _ {F : Type 0} (R : Ring F) (eq : F → F → Bool) (negative : F → Bool) where
@@ -55,12 +55,12 @@ module _ {F : Type 0} (R : Ring F) (eq : F → F → Bool) (negative : F → Boo
       ∙ length-append (filter p (map (λ (c : Contribution F). c.amount) xs)) (filter p (map (λ (c : Contribution F). c.amount) ys))
 
   -- what is counted of two lists, one after the other
-  joined : (p : F → Bool) (xs ys : List (Contribution F)) (a b c : ℕ) → b ≡ capped (a + length (filter p (map (λ d. d.amount) xs))) → c ≡ capped (b + length (filter p (map (λ d. d.amount) ys)))
-      → c ≡ capped (a + length (filter p (map (λ d. d.amount) (xs ++ ys))))
+  joined : (p : F → Bool) (xs ys : List (Contribution F)) (a b c : ℕ) → b ≡ saturated_usize (a + length (filter p (map (λ d. d.amount) xs))) → c ≡ saturated_usize (b + length (filter p (map (λ d. d.amount) ys)))
+      → c ≡ saturated_usize (a + length (filter p (map (λ d. d.amount) (xs ++ ys))))
   joined p xs ys a b c first then =
       let m = length (filter p (map (λ (d : Contribution F). d.amount) xs)) in
       let n = length (filter p (map (λ (d : Contribution F). d.amount) ys)) in
-      then ∙ ap (λ k. capped (k + n)) first ∙ capped-twice a m n _ (passing-append p xs ys)
+      then ∙ ap (λ k. saturated_usize (k + n)) first ∙ capped-twice a m n _ (passing-append p xs ys)
 
   -- the first walk of the table of groups
   pub tallies_walk : IsWalk IsReady Tallies

@@ -19,8 +19,8 @@ use Rattle.air.specs.Traces.{AirTraces}
 use Rattle.lookup_model.specs.Constraints.{additive_denominator, exclusive_denominator, fraction_denominator, Constraint, accumulator_at, fraction_at, fraction_constraint, fractions_at, fraction_numerator}
 use Rattle.lookup_model.specs.Fault.{are_boolean, fault_of, vanishes}
 use Rattle.lookup_model.specs.Message.{Key, Message}
-use Rattle.lookup_model.specs.Plain.{counted, plain_accumulator, plain_cells, plain_fraction, plain_row, plain_terminal, trace_messages}
-use Rattle.lookup_model.specs.Sent.{Sent, chosen, sent, branches_at, flags_at, sent_at}
+use Rattle.lookup_model.specs.Plain.{counted_messages, plain_accumulator, plain_cells, plain_fraction, plain_row, plain_terminal, trace_messages}
+use Rattle.lookup_model.specs.Sent.{Sent, chosen_branches, sent, branches_at, flags_at, sent_at}
 use Rattle.lookup_model.specs.Batches.Messages.{HasLawfulFlags, NoneVanishes, AreFlagsLawful, batch_messages, sent_rows_of}
 use Rattle.lookup_model.specs.Denominators.{column_denominator, key_denominator}
 use Rattle.lookup_model.specs.Generated.{plain_matrix, plain_terminal_of}
@@ -62,9 +62,9 @@ module _ {F K : Type 0} {E : Extension F K} (laws : IsLawful E) where
         each.0 (ring_law laws.ring (denominator m.key.tuple ∷ []) (var 0) ((var 0 :+ con 0) :+ (con 1 :- (con 1 :+ con 0))) refl ∙ e)
     chosen_nonzero (m ∷ n ∷ ms) few each e = absurd (omega (arith, few))
 
-    exclusive_nonzero : (fs : List F) (bs : List (Message F)) → length fs ≡ length bs → are_boolean E.base E.base_eq fs ≡ true → length (chosen E.base E.base_eq fs bs) ≤ 1 → AreNonzero (chosen E.base E.base_eq fs bs) → exclusive_denominator E denominator fs bs ≢ E.ring.zero
+    exclusive_nonzero : (fs : List F) (bs : List (Message F)) → length fs ≡ length bs → are_boolean E.base E.base_eq fs ≡ true → length (chosen_branches E.base E.base_eq fs bs) ≤ 1 → AreNonzero (chosen_branches E.base E.base_eq fs bs) → exclusive_denominator E denominator fs bs ≢ E.ring.zero
     exclusive_nonzero fs bs same lawful few each e =
-        chosen_nonzero (chosen E.base E.base_eq fs bs) few each
+        chosen_nonzero (chosen_branches E.base E.base_eq fs bs) few each
         ((λ i. E.ring.add (sym (selected_sum laws (λ (m : Message F). denominator m.key.tuple) fs bs lawful) i) (sub_in E.ring E.ring.one (sym (flags_sum laws fs bs same lawful) i))) ∙ e)
 
     -- with flags or without
@@ -94,7 +94,7 @@ module _ {F K : Type 0} {E : Extension F K} (laws : IsLawful E) where
       where
         by_flags : (flags : Option (List F)) (ms : List (Message F)) → HasLawfulFlags E.base E.base_eq (record { flags = flags; messages = ms }) → NoneVanishes E denominator ms → fault_of E denominator row column (record { flags = flags; messages = ms }) ≡ None
         by_flags None ms lawful each =
-            additive_faultless E denominator row column ms (none_vanish (counted E.base E.base_eq ms) (all_kept (λ m. denominator m.key ≢ E.ring.zero) _ ms each))
+            additive_faultless E denominator row column ms (none_vanish (counted_messages E.base E.base_eq ms) (all_kept (λ m. denominator m.key ≢ E.ring.zero) _ ms each))
         by_flags (Some fs) ms lawful each = exclusive_faultless E denominator row column fs ms lawful.0 lawful.1 (none_vanish ms each)
 
 module _ {F K : Type 0} {E : Extension F K} (laws : IsLawful E) (challenges : List K) (traces : AirTraces F) (lookups : List (Lookup F)) (records : AreRecords lookups) (some : 0 < length lookups) where

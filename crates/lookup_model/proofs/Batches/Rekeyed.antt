@@ -14,7 +14,7 @@ use Rattle.field.specs.Extension.{Extension, IsLawful}
 use Rattle.lookup_model.specs.Fault.{IsLawfulSelection, dividing_messages, fault_of, flag_fault_of, row_faults, trace_faults, vanishes}
 use Rattle.lookup_model.specs.Generated.{plain_matrix, plain_terminal_of}
 use Rattle.lookup_model.specs.Message.{Key, Message}
-use Rattle.lookup_model.specs.Plain.{counted, plain_cells, plain_fraction, plain_row, plain_terminal, quotient_of, trace_messages}
+use Rattle.lookup_model.specs.Plain.{counted_messages, plain_cells, plain_fraction, plain_row, plain_terminal, quotient_of, trace_messages}
 use Rattle.lookup_model.specs.Sent.{Sent}
 use Rattle.lookup_model.specs.declared.error.LookupError.TheVariants.{VanishingDenominator}
 use Rattle.lookup_model.specs.declared.types.Lookup.{Lookup}
@@ -91,13 +91,13 @@ module _ {F K : Type 0} {E : Extension F K} (laws : IsLawful E) (den den' : Key 
   same_vanishing (m ∷ ms) [] same = absurd same
   same_vanishing (m ∷ ms) (n ∷ ns) same = λ i. E.eq (same.0.1 i) E.ring.zero || same_vanishing ms ns same.1 i
 
-  same_counted : (ms ns : List (Message F)) → AreRekeyed ms ns → AreRekeyed (counted E.base E.base_eq ms) (counted E.base E.base_eq ns)
+  same_counted : (ms ns : List (Message F)) → AreRekeyed ms ns → AreRekeyed (counted_messages E.base E.base_eq ms) (counted_messages E.base E.base_eq ns)
   same_counted ms ns same =
       AllZip-filter IsRekeyed (λ m. not (E.base_eq m.multiplicity E.base.zero)) (λ n. not (E.base_eq n.multiplicity E.base.zero)) (λ m n e. ap (λ x. not (E.base_eq x E.base.zero)) e.0) ms ns same
 
   -- the denominators that count vanish alike
   same_dividing : (flags : Option (List F)) (ms ns : List (Message F)) → AreRekeyed ms ns → vanishes E den (dividing_messages E.base E.base_eq flags ms) ≡ vanishes E den' (dividing_messages E.base E.base_eq flags ns)
-  same_dividing None ms ns keyed = same_vanishing (counted E.base E.base_eq ms) (counted E.base E.base_eq ns) (same_counted ms ns keyed)
+  same_dividing None ms ns keyed = same_vanishing (counted_messages E.base E.base_eq ms) (counted_messages E.base E.base_eq ns) (same_counted ms ns keyed)
   same_dividing (Some _) ms ns keyed = same_vanishing ms ns keyed
 
   pub same_fault : (row column : ℕ) (s t : Sent F) → SameUpToKeys s t → fault_of E den row column s ≡ fault_of E den' row column t

@@ -13,7 +13,7 @@ use Rattle.expressions.specs.declared.base_expression.SymbolicExpression.{Symbol
 use Rattle.air.specs.Traces.{window_of}
 use Rattle.lookup_model.specs.Denominators.{key_denominator, tuple_denominator}
 use Rattle.lookup_model.specs.Message.{Key, Message}
-use Rattle.lookup_model.specs.Sent.{branch_at, chosen, flags_at, sent, sent_at, Sent}
+use Rattle.lookup_model.specs.Sent.{branch_at, chosen_branches, flags_at, sent, sent_at, Sent}
 use Rattle.lookup_model.specs.declared.types.Lookup.{Lookup}
 use Rattle.lookup_model.specs.Batches.Instances.{Instance, IsFitting}
 use Rattle.lookup_model.specs.Batches.Messages.{id_of, sent_rows_of}
@@ -69,7 +69,7 @@ module _ {F K : Type 0} {E : Extension F K} (laws : IsLawful E) (table : Challen
     rekeyed_all : (zs : Branches) → AreRekeyed laws column_den table_den (map by_column zs) (map by_id zs)
     rekeyed_all zs = AllZip-of_one (IsRekeyed laws column_den table_den) by_column by_id zs (each_of _ (λ z. (refl, same (by_id z).key.tuple)) zs)
 
-    rekeyed_chosen : (fs : List F) (zs : Branches) → AreRekeyed laws column_den table_den (chosen E.base E.base_eq fs (map by_column zs)) (chosen E.base E.base_eq fs (map by_id zs))
+    rekeyed_chosen : (fs : List F) (zs : Branches) → AreRekeyed laws column_den table_den (chosen_branches E.base E.base_eq fs (map by_column zs)) (chosen_branches E.base E.base_eq fs (map by_id zs))
     rekeyed_chosen fs zs =
         let Flagged = λ (p q : F × Message F). (p.0 ≡ q.0) × IsRekeyed laws column_den table_den p.1 q.1 in
         let is_set = λ (q : F × Message F). E.base_eq q.0 E.base.one in

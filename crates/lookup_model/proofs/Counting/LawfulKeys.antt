@@ -22,7 +22,7 @@ use Rattle.lookup_model.specs.Trace.{sent_row_under}
 use Rattle.lookup_model.specs.Batches.Instances.{Instance, IsFitting}
 use Rattle.lookup_model.specs.Batches.Messages.{batch_messages, id_of, sent_rows_of}
 use Rattle.lookup_model.specs.Collisions.{IsLawfulKey}
-use Rattle.lookup_model.specs.Batches.Ids.{AreLawfulIds, identified}
+use Rattle.lookup_model.specs.Batches.Ids.{AreLawfulIds, batch_lookups_with_ids}
 use Rattle.lookup_model.proofs.Batches.SentFacts.{all_sent}
 
 module _ {F : Type 0} where
@@ -106,24 +106,24 @@ module _ {F : Type 0} (R : Ring F) (eq : F → F → Bool) (W m : ℕ) (width : 
       (subst (λ (c : ℕ). IsLawfulLookup (slice_index_or instance.ids c 0, lookup)) (sym at) (zip_here IsLawfulLookup instance.ids instance.lookups k 0 lookup fitting.ids lawful below is))))))
       (range_with_len 0 (height instance.traces.main))))
 
-  batch_lawful : (instances : List (Instance F)) → AllByRecursion IsFitting instances → AllByRecursion IsLawfulLookup (identified instances) → AllByRecursion IsLawfulMessage (batch_messages R eq instances)
+  batch_lawful : (instances : List (Instance F)) → AllByRecursion IsFitting instances → AllByRecursion IsLawfulLookup (batch_lookups_with_ids instances) → AllByRecursion IsLawfulMessage (batch_messages R eq instances)
   batch_lawful [] fitting lawful = tt
   batch_lawful (instance ∷ instances) fitting lawful =
       all_both IsLawfulMessage (trace_messages (sent_rows_of R eq instance)) (batch_messages R eq instances)
-      (instance_lawful instance fitting.0 (all_front IsLawfulLookup (zip instance.ids instance.lookups) (identified instances) lawful))
-      (batch_lawful instances fitting.1 (all_back IsLawfulLookup (zip instance.ids instance.lookups) (identified instances) lawful))
+      (instance_lawful instance fitting.0 (all_front IsLawfulLookup (zip instance.ids instance.lookups) (batch_lookups_with_ids instances) lawful))
+      (batch_lawful instances fitting.1 (all_back IsLawfulLookup (zip instance.ids instance.lookups) (batch_lookups_with_ids instances) lawful))
 
 -- so all keys of a batch with lawful ids are lawful
-pub keys_lawful : {F : Type 0} (R : Ring F) (eq : F → F → Bool) (W m p : ℕ) (instances : List (Instance F)) → AllByRecursion IsFitting instances → AreLawfulIds W m p instances → AllByRecursion (IsLawfulKey W m (width_under (identified instances))) (keys eq (batch_messages R eq instances))
+pub keys_lawful : {F : Type 0} (R : Ring F) (eq : F → F → Bool) (W m p : ℕ) (instances : List (Instance F)) → AllByRecursion IsFitting instances → AreLawfulIds W m p instances → AllByRecursion (IsLawfulKey W m (width_under (batch_lookups_with_ids instances))) (keys eq (batch_messages R eq instances))
 keys_lawful {F} R eq W m p instances fitting ids =
     let messages = batch_messages R eq instances in
-    let width = width_under (identified instances) in
+    let width = width_under (batch_lookups_with_ids instances) in
     all_first_seen (same_key eq) (IsLawfulKey W m width) (map (λ t. t.key) messages)
     (all_images (IsLawfulKey W m width) (λ t. t.key) messages
-    (batch_lawful R eq W m width instances fitting (recursion_from_All (IsLawfulLookup R eq W m width) (identified instances) (λ i d lt. record {
+    (batch_lawful R eq W m width instances fitting (recursion_from_All (IsLawfulLookup R eq W m width) (batch_lookups_with_ids instances) (λ i d lt. record {
       below = ids.below i d lt;
-      widths = recursion_from_All (λ tuple. length tuple.items ≡ width (get_or (identified instances) i d).0) _ (λ j t within.
-          sym (width_is (identified instances) (get_or (identified instances) i d).0 (length (get_or (get_or (identified instances) i d).1.elements.items j t).items)
+      widths = recursion_from_All (λ tuple. length tuple.items ≡ width (get_or (batch_lookups_with_ids instances) i d).0) _ (λ j t within.
+          sym (width_is (batch_lookups_with_ids instances) (get_or (batch_lookups_with_ids instances) i d).0 (length (get_or (get_or (batch_lookups_with_ids instances) i d).1.elements.items j t).items)
           (λ k e below same. ids.widths i d lt k e below same j t within) i d lt refl (omega (arith, within))));
       narrow = recursion_from_All (λ tuple. length tuple.items ≤ W) _ (ids.narrow i d lt);
     }))))

@@ -7,23 +7,23 @@ use Rattle.field.specs.Ring.{Ring}
 use Rattle.field.specs.Extension.{Extension}
 use Rattle.lookup_model.specs.Fault.{IsLawfulSelection, are_boolean, fault_of, flag_fault_of, set_indices, vanishes}
 use Rattle.lookup_model.specs.Message.{Key, Message}
-use Rattle.lookup_model.specs.Plain.{counted}
+use Rattle.lookup_model.specs.Plain.{counted_messages}
 use Rattle.lookup_model.specs.Sent.{Sent, sent}
 use Rattle.lookup_model.specs.declared.error.LookupError.{LookupError}
 use Rattle.lookup_model.specs.declared.error.LookupError.TheVariants.{VanishingDenominator, FlagNotBoolean, FlagsNotExclusive}
 
 module _ {F K : Type 0} (E : Extension F K) (denominator : Key F → K) (row column : ℕ) (branches : List (Message F)) where
   -- an additive lookup has no fault where no denominator that counts vanishes
-  pub additive_faultless : vanishes E denominator (counted E.base E.base_eq branches) ≡ false → fault_of E denominator row column (sent E.base E.base_eq None branches) ≡ None
+  pub additive_faultless : vanishes E denominator (counted_messages E.base E.base_eq branches) ≡ false → fault_of E denominator row column (sent E.base E.base_eq None branches) ≡ None
   additive_faultless e = ap (λ b. if b then Some (VanishingDenominator row column) else None) e
 
   -- and this one where one does
-  pub additive_fault : vanishes E denominator (counted E.base E.base_eq branches) ≡ true → fault_of E denominator row column (sent E.base E.base_eq None branches) ≡ Some (VanishingDenominator row column)
+  pub additive_fault : vanishes E denominator (counted_messages E.base E.base_eq branches) ≡ true → fault_of E denominator row column (sent E.base E.base_eq None branches) ≡ Some (VanishingDenominator row column)
   additive_fault e = ap (λ b. if b then Some (VanishingDenominator row column) else None) e
 
   -- so no fault is no vanishing denominator that counts
-  pub additive_none : fault_of E denominator row column (record { flags = None; messages = branches }) ≡ None → vanishes E denominator (counted E.base E.base_eq branches) ≡ false
-  additive_none none = by_test (vanishes E denominator (counted E.base E.base_eq branches)) none
+  pub additive_none : fault_of E denominator row column (record { flags = None; messages = branches }) ≡ None → vanishes E denominator (counted_messages E.base E.base_eq branches) ≡ false
+  additive_none none = by_test (vanishes E denominator (counted_messages E.base E.base_eq branches)) none
     where
       by_test : (b : Bool) → cond b (Some (VanishingDenominator row column)) None ≡ None → b ≡ false
       by_test true bad = absurd (cc bad)

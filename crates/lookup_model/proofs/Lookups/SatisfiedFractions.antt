@@ -18,9 +18,9 @@ use Rattle.expressions.specs.declared.base_expression.SymbolicExpression.{Symbol
 use Rattle.lookup_model.specs.Constraints.{fraction_left, exclusive_numerator, flagged_denominators}
 use Rattle.lookup_model.specs.Denominators.{column_denominator, key_denominator}
 use Rattle.lookup_model.specs.Fault.{vanishes, are_boolean, fault_of}
-use Rattle.lookup_model.specs.Plain.{quotient_of, counted, plain_fraction, quotient}
+use Rattle.lookup_model.specs.Plain.{quotient_of, counted_messages, plain_fraction, quotient}
 use Rattle.lookup_model.specs.Message.{Key, Message}
-use Rattle.lookup_model.specs.Sent.{branch_at, chosen, branches_at, flags_at, sent, sent_at, value, values}
+use Rattle.lookup_model.specs.Sent.{branch_at, chosen_branches, branches_at, flags_at, sent, sent_at, value, values}
 use Rattle.lookup_model.specs.Records.{HasEqualLengths}
 use Rattle.lookup_model.specs.declared.types.Lookup.{Lookup}
 use Rattle.lookup_model.proofs.TakenOut.{item_of, product_of, sum_in-same, sum_in-scaled, sum_of}
@@ -62,11 +62,11 @@ module _ {F K : Type 0} {E : Extension F K} (laws : IsLawful E) (denominator : K
       ∙ mul_zero laws.ring (denominator m.key) ∙ sym (ap E.embed e ∙ laws.embeds.zero)
 
   -- so it is of all messages, where no denominator that counts vanishes
-  pub divides_each : (ms : List (Message F)) → vanishes E denominator (counted E.base E.base_eq ms) ≡ false → AllByRecursion (λ m. E.ring.mul (denominator m.key) (quotient_of E denominator m) ≡ E.embed m.multiplicity) ms
+  pub divides_each : (ms : List (Message F)) → vanishes E denominator (counted_messages E.base E.base_eq ms) ≡ false → AllByRecursion (λ m. E.ring.mul (denominator m.key) (quotient_of E denominator m) ≡ E.embed m.multiplicity) ms
   divides_each [] none = tt
   divides_each (m ∷ ms) none = by_test (E.base_eq m.multiplicity E.base.zero) refl none (divides_each ms)
     where
-      by_denominator : (b : Bool) → E.eq (denominator m.key) E.ring.zero ≡ b → (b || vanishes E denominator (counted E.base E.base_eq ms)) ≡ false → (E.ring.mul (denominator m.key) (quotient_of E denominator m) ≡ E.embed m.multiplicity) × (vanishes E denominator (counted E.base E.base_eq ms) ≡ false)
+      by_denominator : (b : Bool) → E.eq (denominator m.key) E.ring.zero ≡ b → (b || vanishes E denominator (counted_messages E.base E.base_eq ms)) ≡ false → (E.ring.mul (denominator m.key) (quotient_of E denominator m) ≡ E.embed m.multiplicity) × (vanishes E denominator (counted_messages E.base E.base_eq ms) ≡ false)
       by_denominator true e bad = absurd (true≢false bad)
       by_denominator false e rest =
           (divides_one m (λ z. true≢false (sym ((laws.eq (denominator m.key) E.ring.zero).1 z) ∙ e)), rest)
@@ -74,7 +74,7 @@ module _ {F K : Type 0} {E : Extension F K} (laws : IsLawful E) (denominator : K
       AllDivide : List (Message F) → Type 0
       AllDivide ns = AllByRecursion (λ n. E.ring.mul (denominator n.key) (quotient_of E denominator n) ≡ E.embed n.multiplicity) ns
 
-      by_test : (b : Bool) → E.base_eq m.multiplicity E.base.zero ≡ b → vanishes E denominator (cond (not b) (m ∷ counted E.base E.base_eq ms) (counted E.base E.base_eq ms)) ≡ false → (vanishes E denominator (counted E.base E.base_eq ms) ≡ false → AllDivide ms) → AllDivide (m ∷ ms)
+      by_test : (b : Bool) → E.base_eq m.multiplicity E.base.zero ≡ b → vanishes E denominator (cond (not b) (m ∷ counted_messages E.base E.base_eq ms) (counted_messages E.base E.base_eq ms)) ≡ false → (vanishes E denominator (counted_messages E.base E.base_eq ms) ≡ false → AllDivide ms) → AllDivide (m ∷ ms)
       by_test true e rest further = (zero_divides m ((laws.base_eq m.multiplicity E.base.zero).0 e), further rest)
       by_test false e rest further =
           let (here, left) = by_denominator (E.eq (denominator m.key) E.ring.zero) refl rest in (here, further left)
@@ -95,7 +95,7 @@ module _ {F K : Type 0} {E : Extension F K} (laws : IsLawful E) (challenges : Li
   by_column (z ∷ zs) each = (each.0, by_column zs each.1)
 
   -- the plain fraction of an additive lookup satisfies its constraint
-  pub additive_satisfied : (zs : List (Vec (SymbolicExpression F) Global × SymbolicExpression F)) (f : K) → f ≡ plain_fraction E of_key (record { flags = None; messages = branches_of zs }) → vanishes E of_key (counted E.base E.base_eq (branches_of zs)) ≡ false → fraction_left E denominator_of_tuple None (branches_of zs) f ≡ E.ring.zero
+  pub additive_satisfied : (zs : List (Vec (SymbolicExpression F) Global × SymbolicExpression F)) (f : K) → f ≡ plain_fraction E of_key (record { flags = None; messages = branches_of zs }) → vanishes E of_key (counted_messages E.base E.base_eq (branches_of zs)) ≡ false → fraction_left E denominator_of_tuple None (branches_of zs) f ≡ E.ring.zero
   additive_satisfied zs f f_is none =
       let ms = branches_of zs in
       let p = λ (m : Message F). E.embed m.multiplicity in
@@ -116,7 +116,7 @@ module _ {F K : Type 0} {E : Extension F K} (laws : IsLawful E) where
 
   module _ {X : Type 0} (g : X → K) where
     -- Of lawful flags, the sum of flag times value is the sum over the branches that they choose.
-    pub selected_sum : (fs : List F) (bs : List X) → are_boolean E.base E.base_eq fs ≡ true → sum_in E.ring (map (λ b. E.ring.mul (E.embed b.0) (g b.1)) (zip fs bs)) ≡ sum_in E.ring (map g (chosen E.base E.base_eq fs bs))
+    pub selected_sum : (fs : List F) (bs : List X) → are_boolean E.base E.base_eq fs ≡ true → sum_in E.ring (map (λ b. E.ring.mul (E.embed b.0) (g b.1)) (zip fs bs)) ≡ sum_in E.ring (map g (chosen_branches E.base E.base_eq fs bs))
     selected_sum [] bs lawful = refl
     selected_sum (f ∷ fs) [] lawful = refl
     selected_sum (f ∷ fs) (b ∷ bs) lawful = by_test (E.base_eq f E.base.one) refl (selected_sum fs bs parts.1)
@@ -127,18 +127,18 @@ module _ {F K : Type 0} {E : Extension F K} (laws : IsLawful E) where
         total : K
         total = sum_in E.ring (map (λ (q : F × X). E.ring.mul (E.embed q.0) (g q.1)) (zip fs bs))
 
-        by_test : (t : Bool) → E.base_eq f E.base.one ≡ t → total ≡ sum_in E.ring (map g (chosen E.base E.base_eq fs bs))
+        by_test : (t : Bool) → E.base_eq f E.base.one ≡ t → total ≡ sum_in E.ring (map g (chosen_branches E.base E.base_eq fs bs))
             → E.ring.add (E.ring.mul (E.embed f) (g b)) total ≡ sum_in E.ring (map g (map (λ (q : F × X). q.1) (cond t ((f, b) ∷ filter (λ q. E.base_eq q.0 E.base.one) (zip fs bs)) (filter (λ q. E.base_eq q.0 E.base.one) (zip fs bs)))))
         by_test true e rest =
             let one = ap E.embed ((laws.base_eq f E.base.one).0 e) ∙ laws.embeds.one in
-            (λ i. E.ring.add (E.ring.mul (one i) (g b)) (rest i)) ∙ ap (λ x. E.ring.add x (sum_in E.ring (map g (chosen E.base E.base_eq fs bs)))) (one_mul laws.ring (g b))
+            (λ i. E.ring.add (E.ring.mul (one i) (g b)) (rest i)) ∙ ap (λ x. E.ring.add x (sum_in E.ring (map g (chosen_branches E.base E.base_eq fs bs)))) (one_mul laws.ring (g b))
         by_test false e rest =
             let zero = ap E.embed (unset_is_zero f parts.0 e) ∙ laws.embeds.zero in
-            (λ i. E.ring.add (E.ring.mul (zero i) (g b)) (rest i)) ∙ ap (λ x. E.ring.add x (sum_in E.ring (map g (chosen E.base E.base_eq fs bs)))) (zero_mul laws.ring (g b)) ∙ zero_add laws.ring (sum_in E.ring (map g (chosen E.base E.base_eq fs bs)))
+            (λ i. E.ring.add (E.ring.mul (zero i) (g b)) (rest i)) ∙ ap (λ x. E.ring.add x (sum_in E.ring (map g (chosen_branches E.base E.base_eq fs bs)))) (zero_mul laws.ring (g b)) ∙ zero_add laws.ring (sum_in E.ring (map g (chosen_branches E.base E.base_eq fs bs)))
 
   module _ {X : Type 0} where
     -- The sum of lawful flags counts the branches that they choose.
-    pub flags_sum : (fs : List F) (bs : List X) → length fs ≡ length bs → are_boolean E.base E.base_eq fs ≡ true → sum_in E.ring (map E.embed fs) ≡ sum_in E.ring (map (λ b. E.ring.one) (chosen E.base E.base_eq fs bs))
+    pub flags_sum : (fs : List F) (bs : List X) → length fs ≡ length bs → are_boolean E.base E.base_eq fs ≡ true → sum_in E.ring (map E.embed fs) ≡ sum_in E.ring (map (λ b. E.ring.one) (chosen_branches E.base E.base_eq fs bs))
     flags_sum fs bs same lawful = as_products fs bs same ∙ selected_sum (λ b. E.ring.one) fs bs lawful
       where
         as_products : (es : List F) (cs : List X) → length es ≡ length cs → sum_in E.ring (map E.embed es) ≡ sum_in E.ring (map (λ (q : F × X). E.ring.mul (E.embed q.0) E.ring.one) (zip es cs))
@@ -167,12 +167,12 @@ module _ {F K : Type 0} {E : Extension F K} (laws : IsLawful E) where
     by_chosen (m ∷ n ∷ ms) D f N few divides D_is f_is N_is = absurd (omega (arith, few))
 
     -- the plain fraction of an exclusive lookup satisfies its equation
-    pub selection_satisfied : (fs : List F) (bs : List (Message F)) (D f : K) → length fs ≡ length bs → are_boolean E.base E.base_eq fs ≡ true → length (chosen E.base E.base_eq fs bs) ≤ 1 → vanishes E denominator (chosen E.base E.base_eq fs bs) ≡ false
+    pub selection_satisfied : (fs : List F) (bs : List (Message F)) (D f : K) → length fs ≡ length bs → are_boolean E.base E.base_eq fs ≡ true → length (chosen_branches E.base E.base_eq fs bs) ≤ 1 → vanishes E denominator (chosen_branches E.base E.base_eq fs bs) ≡ false
         → D ≡ E.ring.add (sum_in E.ring (map (λ b. E.ring.mul (E.embed b.0) (denominator b.1.key)) (zip fs bs))) (sub_in E.ring E.ring.one (sum_in E.ring (map E.embed fs)))
-        → f ≡ plain_fraction E denominator (record { flags = Some fs; messages = chosen E.base E.base_eq fs bs })
+        → f ≡ plain_fraction E denominator (record { flags = Some fs; messages = chosen_branches E.base E.base_eq fs bs })
         → sub_in E.ring (E.ring.mul D f) (exclusive_numerator E fs bs) ≡ E.ring.zero
     selection_satisfied fs bs D f same lawful few divides D_is f_is =
-        let ms = chosen E.base E.base_eq fs bs in
+        let ms = chosen_branches E.base E.base_eq fs bs in
         by_chosen ms D f (exclusive_numerator E fs bs) few divides
         (D_is ∙ (λ i. E.ring.add (selected_sum (λ m. denominator m.key) fs bs lawful i) (sub_in E.ring E.ring.one (flags_sum fs bs same lawful i))))
         (f_is ∙ plain_fraction-all laws denominator (record { flags = Some fs; messages = ms }))
@@ -202,7 +202,7 @@ module _ {F K : Type 0} {E : Extension F K} (laws : IsLawful E) (challenges : Li
   by_flags None zs f same f_is none =
       additive_satisfied laws challenges column w zs f f_is (additive_none E key_denominators row column (branches_in zs) none)
   by_flags (Some fs) zs f same f_is none =
-      let passed = exclusive_none E key_denominators row column fs (chosen E.base E.base_eq fs (branches_in zs)) none in
+      let passed = exclusive_none E key_denominators row column fs (chosen_branches E.base E.base_eq fs (branches_in zs)) none in
       selection_satisfied laws key_denominators fs (branches_in zs) _ f same passed.0 (omega (arith, passed.1, chosen_few E.base E.base_eq 0 fs (branches_in zs))) passed.2
       (ap (λ t. E.ring.add t (sub_in E.ring E.ring.one (sum_in E.ring (map E.embed fs)))) (flagged_by_column fs zs)) f_is
 

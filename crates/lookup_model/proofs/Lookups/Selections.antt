@@ -8,7 +8,7 @@ use Rattle.std.specs.List.{enumerate_from, filter, list_all, zip}
 use Rattle.lists.proofs.Items.{enumerate_from-append}
 use Rattle.field.specs.Ring.{IsDomain, Ring}
 use Rattle.lookup_model.specs.Fault.{are_boolean, set_indices}
-use Rattle.lookup_model.specs.Sent.{chosen}
+use Rattle.lookup_model.specs.Sent.{chosen_branches}
 
 module _ {F : Type 0} (is_set : F → Bool) where
   -- the indices of the flags that pass a test, where the first flag has index n
@@ -50,26 +50,26 @@ module _ {F : Type 0} (R : Ring F) (eq : F → F → Bool) where
 
   module _ {X : Type 0} where
     -- no more branches are chosen than flags are set
-    pub chosen_few : (n : ℕ) (fs : List F) (bs : List X) → length (chosen R eq fs bs) ≤ length (set_indices R eq n fs)
+    pub chosen_few : (n : ℕ) (fs : List F) (bs : List X) → length (chosen_branches R eq fs bs) ≤ length (set_indices R eq n fs)
     chosen_few n [] bs = omega arith
     chosen_few n (f ∷ fs) [] = omega arith
     chosen_few n (f ∷ fs) (b ∷ bs) = by_test (eq f R.one) (chosen_few (n + 1) fs bs)
       where
-        by_test : (t : Bool) → length (chosen R eq fs bs) ≤ length (set_indices R eq (n + 1) fs) → length (map (λ (q : F × X). q.1) (cond t ((f, b) ∷ filter (λ q. eq q.0 R.one) (zip fs bs)) (filter (λ q. eq q.0 R.one) (zip fs bs))))
+        by_test : (t : Bool) → length (chosen_branches R eq fs bs) ≤ length (set_indices R eq (n + 1) fs) → length (map (λ (q : F × X). q.1) (cond t ((f, b) ∷ filter (λ q. eq q.0 R.one) (zip fs bs)) (filter (λ q. eq q.0 R.one) (zip fs bs))))
             ≤ length (map (λ (q : ℕ × F). q.0) (cond t ((n, f) ∷ filter (λ q. eq q.1 R.one) (enumerate_from (n + 1) fs)) (filter (λ q. eq q.1 R.one) (enumerate_from (n + 1) fs))))
         by_test true few = omega (arith, few)
         by_test false few = few
 
     -- where no flag is set none is chosen
-    pub chosen_none : (n : ℕ) (fs : List F) (bs : List X) → set_indices R eq n fs ≡ [] → chosen R eq fs bs ≡ []
-    chosen_none n fs bs none = empty (chosen R eq fs bs) (omega (arith, chosen_few n fs bs, ap length none))
+    pub chosen_none : (n : ℕ) (fs : List F) (bs : List X) → set_indices R eq n fs ≡ [] → chosen_branches R eq fs bs ≡ []
+    chosen_none n fs bs none = empty (chosen_branches R eq fs bs) (omega (arith, chosen_few n fs bs, ap length none))
       where
         empty : (xs : List X) → length xs ≤ 0 → xs ≡ []
         empty [] le = refl
         empty (x ∷ xs) le = absurd (omega (arith, le))
 
     -- where one is set, the branch at its index is chosen
-    pub chosen_one : (n k : ℕ) (fs : List F) (bs : List X) (b : X) → set_indices R eq n fs ≡ (n + k) ∷ [] → k < length bs → b ≡ get_or bs k b → chosen R eq fs bs ≡ b ∷ []
+    pub chosen_one : (n k : ℕ) (fs : List F) (bs : List X) (b : X) → set_indices R eq n fs ≡ (n + k) ∷ [] → k < length bs → b ≡ get_or bs k b → chosen_branches R eq fs bs ≡ b ∷ []
     chosen_one n k [] bs b one lt is = absurd (cc one)
     chosen_one n k (f ∷ fs) [] b one lt is = absurd (omega (arith, lt))
     chosen_one n zero (f ∷ fs) (x ∷ bs) b one lt is = by_test (eq f R.one) one
@@ -82,7 +82,7 @@ module _ {F : Type 0} (R : Ring F) (eq : F → F → Bool) where
     chosen_one n (suc j) (f ∷ fs) (x ∷ bs) b one lt is = by_test (eq f R.one) one (λ (at : set_indices R eq (n + 1) fs ≡ (n + 1 + j) ∷ []). chosen_one (n + 1) j fs bs b at (omega (arith, lt)) is)
       where
         by_test : (t : Bool) → map (λ (q : ℕ × F). q.0) (cond t ((n, f) ∷ filter (λ q. eq q.1 R.one) (enumerate_from (n + 1) fs)) (filter (λ q. eq q.1 R.one) (enumerate_from (n + 1) fs))) ≡ (n + suc j) ∷ []
-            → (set_indices R eq (n + 1) fs ≡ (n + 1 + j) ∷ [] → chosen R eq fs bs ≡ b ∷ [])
+            → (set_indices R eq (n + 1) fs ≡ (n + 1 + j) ∷ [] → chosen_branches R eq fs bs ≡ b ∷ [])
             → map (λ (q : F × X). q.1) (cond t ((f, x) ∷ filter (λ q. eq q.0 R.one) (zip fs bs)) (filter (λ q. eq q.0 R.one) (zip fs bs))) ≡ b ∷ []
         by_test true at further = let first : n ≡ n + suc j = cc at in absurd (omega (arith, first))
         by_test false at further = further (at ∙ ap (λ p. p ∷ []) (omega arith))

@@ -7,8 +7,8 @@ use Rattle.lookup_model.specs.Batches.Instances.{Instance}
 
 module _ {F : Type 0} where
   -- every lookup of a batch with its id, AIR by AIR
-  abbrev pub identified : List (Instance F) → List (ℕ × Lookup F)
-  identified instances = flat_map (λ i. zip i.ids i.lookups) instances
+  abbrev pub batch_lookups_with_ids : List (Instance F) → List (ℕ × Lookup F)
+  batch_lookups_with_ids instances = flat_map (λ i. zip i.ids i.lookups) instances
 
   -- both lookups are sent on one bus
   abbrev pub ShareBus : Lookup F → Lookup F → Type 0
@@ -22,9 +22,9 @@ module _ {F : Type 0} where
   -- lookups have the same id exactly if they share a bus, so each local one has its own; m is at most
   -- p; all tuples under one id have the same width; W is at least 1 and at least every width.
   pub record AreLawfulIds (W m p : ℕ) (instances : List (Instance F)) : Type 0 where
-    pub buses : AllPairs (λ a b. (a.0 ≡ b.0) ↔ ShareBus a.1 b.1) (identified instances)
-    pub below : All (λ a. a.0 < m) (identified instances)
+    pub buses : AllPairs (λ a b. (a.0 ≡ b.0) ↔ ShareBus a.1 b.1) (batch_lookups_with_ids instances)
+    pub below : All (λ a. a.0 < m) (batch_lookups_with_ids instances)
     pub few : m ≤ p
-    pub widths : All (λ a. All (λ b. a.0 ≡ b.0 → HaveOneWidth a.1 b.1) (identified instances)) (identified instances)
-    pub narrow : All (λ a. All (λ tuple. length tuple.items ≤ W) a.1.elements.items) (identified instances)
+    pub widths : All (λ a. All (λ b. a.0 ≡ b.0 → HaveOneWidth a.1 b.1) (batch_lookups_with_ids instances)) (batch_lookups_with_ids instances)
+    pub narrow : All (λ a. All (λ tuple. length tuple.items ≤ W) a.1.elements.items) (batch_lookups_with_ids instances)
     pub positive : 1 ≤ W

@@ -35,14 +35,14 @@ module _ {F K : Type 0} (E : Extension F K) (table : ChallengeTable K) where
       HoldsOnRow E i.traces i.lookups (column_challenges table i.ids) result.0 result.1 r
 
   -- row r is the first on which a constraint is not zero
-  abbrev pub IsFirstFailing : Instance F → AirResult K → ℕ → Type 0
-  IsFirstFailing i result r = FailsFirstAt (HoldsAt i result) (height_of i.traces) r
+  abbrev pub IsFirstFailingRowOfInstance : Instance F → AirResult K → ℕ → Type 0
+  IsFirstFailingRowOfInstance i result r = FailsFirstAt (HoldsAt i result) (height_of i.traces) r
 
   -- the refusal of one AIR's result: for its shape, else at the first row where a constraint fails
   abbrev pub IsAirRefusal : ℕ → Instance F → AirResult K → LookupError → Type 0
   IsAirRefusal air i result e =
       IsShapeRefusal air i result e
-      ⊎ (HasShapeAt i result × ((r : ℕ) × IsFirstFailing i result r × (e ≡ ConstraintFailed air r)))
+      ⊎ (HasShapeAt i result × ((r : ℕ) × IsFirstFailingRowOfInstance i result r × (e ≡ ConstraintFailed air r)))
 
   -- the refusal of the first AIR that has one
   pub record IsFirstRefusal (instances : List (Instance F)) (witness : List (AirResult K)) (e : LookupError) : Type 0 where

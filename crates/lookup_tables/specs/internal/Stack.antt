@@ -9,8 +9,8 @@ use Rattle.lookup_tables.specs.Nodes.{nodes_of}
 use Rattle.lookup_tables.specs.internal.Nodes.{is_leaf, is_negation, is_operation}
 
 -- the nodes of the expressions on the stack
-abbrev pub written : {p : ℕ} → List (Part (Residue p)) → List Node
-written parts = flat_map (λ part. nodes_of (tree_of part.expression)) parts
+abbrev pub nodes_on_stack : {p : ℕ} → List (Part (Residue p)) → List Node
+nodes_on_stack parts = flat_map (λ part. nodes_of (tree_of part.expression)) parts
 
 -- their depths, the last one first, before these
 abbrev pub part_depths_on : {F : Type 0} → List ℕ → List (Part F) → List ℕ

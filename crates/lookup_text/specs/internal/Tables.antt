@@ -3,12 +3,12 @@ use Rattle.std.specs.Prelude.{◌≡◌, ◌+◌, ◌++◌, ◌==◌, not, ℕ, 
 use Rattle.std.specs.List.{take_while}
 use Rattle.lookup_text.specs.declared.fault.Fault.{Fault}
 use Rattle.lookup_text.specs.Faults.{◌>>=◌}
-use Rattle.lookup_text.specs.Tables.{cells_of}
+use Rattle.lookup_text.specs.Tables.{cells_of_line}
 
 -- the cells of what is left of a line, if there is more
 abbrev pub cells_in : Option (List ℕ) → List (List ℕ)
 cells_in None = []
-cells_in (Some line) = cells_of line
+cells_in (Some line) = cells_of_line line
 
 -- a part of so many bytes has all of a line, or a comma and the rest stand after it
 abbrev pub IsAfter : ℕ → ℕ → Option (List ℕ) → Type 0

@@ -3,7 +3,7 @@ use Rattle.std.proofs.lemmas.List.Elements.{All-map, recursion_from_All}
 use Rattle.std.proofs.lemmas.Result.{err_from_is_err_and}
 use Rattle.field.specs.laws.Extension.{of_laws}
 use Rattle.lookup_model.specs.Batches.Instances.{IsFitting, instance_of, instances_of}
-use Rattle.lookup_model.specs.Batches.Ids.{identified}
+use Rattle.lookup_model.specs.Batches.Ids.{batch_lookups_with_ids}
 use Rattle.batch.proofs.TraceLaws.{have_below}
 use Rattle.batch.proofs.CountLaws.{bound_holds, bound_overflows, count_refused, grid_refused, stays_within}
 use Rattle.batch.specs.Grids.{HaveNoRepeat}
@@ -28,7 +28,7 @@ returns-in_err-check_distinct-2-clause-answer g c =
 pub count_accepted_pairs-requires-clause-ids : goal.count_accepted_pairs-requires-clause-ids
 count_accepted_pairs-requires-clause-ids g c =
     let bs = c.args.batch.now in
-    have_below c.args.num_ids bs c.requires.fit (recursion_from_All (λ a. a.0 < c.args.num_ids) (identified (instances_of bs)) c.requires.lawful.below)
+    have_below c.args.num_ids bs c.requires.fit (recursion_from_All (λ a. a.0 < c.args.num_ids) (batch_lookups_with_ids (instances_of bs)) c.requires.lawful.below)
 
 pub returns-in_err-counts-clause-answer : goal.returns-in_err-counts-clause-answer
 returns-in_err-counts-clause-answer g c =

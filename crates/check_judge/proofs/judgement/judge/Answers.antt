@@ -13,7 +13,7 @@ use Rattle.check_judge.specs.Causes.{IsReportRefusal}
 use Rattle.check_judge.specs.Found.{IsPlanOf, sized_of}
 use Rattle.check_judge.specs.Said.{airs_of}
 use Rattle.check_judge.specs.Airs.{over_traced}
-use Rattle.check_judge.specs.internal.Sizes.{size_of}
+use Rattle.check_judge.specs.internal.Sizes.{sized_lookups_of}
 use Rattle.check_judge.specs.internal.Sharing.{AllHaveTuples}
 use Rattle.check_judge.proofs.CauseLaws.{kept_refusal}
 use Rattle.check_judge.proofs.FittingLaws.{fitting_instances}
@@ -29,14 +29,14 @@ bus_table-requires-clause-heights g c = λ k d lt. (fitting_instances c.deref-3.
 
 pub report_plan-requires-clause-planned : goal.report_plan-requires-clause-planned
 report_plan-requires-clause-planned g c =
-    let sizes = ap (map size_of) c.deref-7.ensures.value ∙ (c.in_ok-sizes.ensures ∙ ap (map (λ a. sized_of (over_traced a))) c.deref-6.ensures.value) in
+    let sizes = ap (map sized_lookups_of) c.deref-7.ensures.value ∙ (c.in_ok-sizes.ensures ∙ ap (map (λ a. sized_of (over_traced a))) c.deref-6.ensures.value) in
     subst (λ s. IsPlanOf g.F.PrimeCharacteristicRing.CHARACTERISTIC s (plan_of c.in_ok-airs.field-0.plan)) (sym sizes) c.in_ok-airs.ensures.planned
 
 pub report_plan-requires-clause-tuples : goal.report_plan-requires-clause-tuples
 report_plan-requires-clause-tuples g c =
     let airs = c.in_ok-airs.field-0.airs.items in
     let sections = map section_of c.args.batch.now.sections.items in
-    let sizes = ap (map size_of) c.deref-7.ensures.value ∙ (c.in_ok-sizes.ensures ∙ (ap (map (λ a. sized_of (over_traced a))) c.deref-6.ensures.value ∙ sym (map-map sized_of over_traced airs))) in
+    let sizes = ap (map sized_lookups_of) c.deref-7.ensures.value ∙ (c.in_ok-sizes.ensures ∙ (ap (map (λ a. sized_of (over_traced a))) c.deref-6.ensures.value ∙ sym (map-map sized_of over_traced airs))) in
     subst AllHaveTuples (sym sizes) (traced_there (of_nat g.F.PrimeCharacteristicRing.ring) c.args.text.now sections 1048576 (airs_of sections) (map tables_of c.args.tables.now) (map over_traced airs) c.in_ok-airs.ensures.said.1)
 
 pub returns : goal.returns
@@ -44,7 +44,7 @@ returns g c =
     let airs = c.in_ok-airs.field-0.airs.items in
     let traced = map over_traced airs in
     let plan = plan_of c.in_ok-airs.field-0.plan in
-    let sizes = ap (map size_of) c.deref-7.ensures.value ∙ (c.in_ok-sizes.ensures ∙ (ap (map (λ a. sized_of (over_traced a))) c.deref-6.ensures.value ∙ sym (map-map sized_of over_traced airs))) in
+    let sizes = ap (map sized_lookups_of) c.deref-7.ensures.value ∙ (c.in_ok-sizes.ensures ∙ (ap (map (λ a. sized_of (over_traced a))) c.deref-6.ensures.value ∙ sym (map-map sized_of over_traced airs))) in
     let traces = ap (map view_of) c.deref-2.ensures.value ∙ (c.in_ok-traces.ensures ∙ (ap (map (λ a. (over_traced a).traces)) c.deref.ensures.value ∙ sym (map-map (λ (t : Traced _). t.traces) over_traced airs))) in
     let instances = ap (map traced_of) c.deref-4.ensures.value ∙ (c.in_ok-instances.ensures ∙ ap (map over_traced) c.deref-3.ensures.value) in
     let found = balanced_over _ _ (map traced_of c.deref-4.result.now) traced instances c.in_ok-groups.groups.items c.deref-5.result.now c.all_balance-balanced.result c.args.limit (is_negative g.F.PrimeCharacteristicRing.CHARACTERISTIC g.F.SignedField.number) (map row_of c.in_ok-groups.groups.items) c.deref-5.ensures.value c.all_balance-balanced.ensures c.in_ok-groups.ensures.balance c.in_ok-groups.ensures.rows in (
@@ -53,7 +53,7 @@ returns g c =
       c.in_ok-airs.ensures.said.1,
       record {
         plan = plan;
-        planned = planned_over _ _ c.args.max_degree (map size_of c.deref-7.result.now) (map sized_of traced) plan c.in_ok-plan.plan sizes c.in_ok-plan.ensures;
+        planned = planned_over _ _ c.args.max_degree (map sized_lookups_of c.deref-7.result.now) (map sized_of traced) plan c.in_ok-plan.plan sizes c.in_ok-plan.ensures;
         counts = record {
           traces = c.deref-2.result.now;
           traces_are = traces;
@@ -94,7 +94,7 @@ returns-in_err-plan g c =
     let plan = plan_of c.in_ok-airs.field-0.plan in
     let planned = subst (λ s. IsPlanOf g.F.PrimeCharacteristicRing.CHARACTERISTIC s plan) (sym (map-map sized_of over_traced airs)) c.in_ok-airs.ensures.planned in
     let traces = ap (map view_of) c.deref-2.ensures.value ∙ (c.in_ok-traces.ensures ∙ (ap (map (λ a. (over_traced a).traces)) c.deref.ensures.value ∙ sym (map-map (λ (t : Traced _). t.traces) over_traced airs))) in
-    let sizes = ap (map size_of) c.deref-7.ensures.value ∙ (c.in_ok-sizes.ensures ∙ (ap (map (λ a. sized_of (over_traced a))) c.deref-6.ensures.value ∙ sym (map-map sized_of over_traced airs))) in
+    let sizes = ap (map sized_lookups_of) c.deref-7.ensures.value ∙ (c.in_ok-sizes.ensures ∙ (ap (map (λ a. sized_of (over_traced a))) c.deref-6.ensures.value ∙ sym (map-map sized_of over_traced airs))) in
     let p = err_from_is_err_and c.from_residual-in_err-plan.result c.from_residual-in_err-plan.ensures.1 in
     rw (p.1, p.2) (elim c.in_err-plan.ensures [
       | inl memory ↦ inl memory

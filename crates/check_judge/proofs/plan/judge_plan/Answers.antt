@@ -13,7 +13,7 @@ use Rattle.lookup_text.specs.Batches.{section_of}
 use Rattle.check_judge.specs.Causes.{IsPlanningRefusal, IsReportRefusal}
 use Rattle.check_judge.specs.Found.{IsPlanOf, sized_over}
 use Rattle.check_judge.specs.Said.{AreLookupsOf, airs_of}
-use Rattle.check_judge.specs.internal.Sizes.{size_of}
+use Rattle.check_judge.specs.internal.Sizes.{sized_lookups_of}
 use Rattle.check_judge.specs.internal.Sharing.{AllHaveTuples}
 use Rattle.check_judge.proofs.AirLaws.{says_long}
 use Rattle.check_judge.proofs.JudgeLaws.{planned_over}
@@ -36,7 +36,7 @@ report_plan-requires-clause-tuples g c =
     let named = c.in_ok-named.named.items in
     let sets = c.in_ok-sets.sets.items in
     let element = of_nat g.F.PrimeCharacteristicRing.ring in
-    let sizes = ap (map size_of) c.deref-4.ensures.value ∙ (c.in_ok-airs.ensures ∙ ap (λ ss. sized_over (map lookups_of ss) shapes) c.deref-2.ensures.value) in
+    let sizes = ap (map sized_lookups_of) c.deref-4.ensures.value ∙ (c.in_ok-airs.ensures ∙ ap (λ ss. sized_over (map lookups_of ss) shapes) c.deref-2.ensures.value) in
     let lookups = AllZip-images (AreLookupsOf element c.args.text.now) said_of lookups_of c.deref.result.now sets c.in_ok-sets.ensures in
     let said = subst (λ ns. AllZip (AreLookupsOf element c.args.text.now) (map said_of ns) (map lookups_of sets)) c.deref.ensures.value lookups in
     subst AllHaveTuples (sym sizes) (planned_there element c.args.text.now sections 1048576 (airs_of sections) shapes (map said_of named) (map lookups_of sets) c.in_ok-named.ensures said)
@@ -48,7 +48,7 @@ returns-in_err-plan g c =
     let named = c.in_ok-named.named.items in
     let element = of_nat g.F.PrimeCharacteristicRing.ring in
     let lookups = AllZip-images (AreLookupsOf element c.args.text.now) said_of lookups_of c.deref.result.now sets c.in_ok-sets.ensures in
-    let sizes = ap (map size_of) c.deref-3.ensures.value ∙ (c.in_ok-airs.ensures ∙ ap (λ ss. sized_over (map lookups_of ss) shapes) c.deref-2.ensures.value) in
+    let sizes = ap (map sized_lookups_of) c.deref-3.ensures.value ∙ (c.in_ok-airs.ensures ∙ ap (λ ss. sized_over (map lookups_of ss) shapes) c.deref-2.ensures.value) in
     let said = subst (λ ns. AllZip (AreLookupsOf element c.args.text.now) (map said_of ns) (map lookups_of sets)) c.deref.ensures.value lookups in
     let p = err_from_is_err_and c.from_residual-in_err-plan.result c.from_residual-in_err-plan.ensures.1 in
     rw (p.1, p.2) (elim c.in_err-plan.ensures [
@@ -67,11 +67,11 @@ returns g c =
     let distinct = sym c.check_buses.ensures ∙ c.in_ok-check_buses.was in
     let lookups = AllZip-images (AreLookupsOf element c.args.text.now) said_of lookups_of c.deref.result.now sets c.in_ok-sets.ensures in
     let before = c.in_ok-airs.ensures ∙ ap (λ ss. sized_over (map lookups_of ss) shapes) c.deref-2.ensures.value in
-    let sizes = ap (map size_of) c.deref-4.ensures.value ∙ before in
-    let planned = subst (λ airs. IsPlanOf g.F.PrimeCharacteristicRing.CHARACTERISTIC airs plan) (ap (map size_of) c.deref-3.ensures.value ∙ before) c.in_ok-plan.ensures in
+    let sizes = ap (map sized_lookups_of) c.deref-4.ensures.value ∙ before in
+    let planned = subst (λ airs. IsPlanOf g.F.PrimeCharacteristicRing.CHARACTERISTIC airs plan) (ap (map sized_lookups_of) c.deref-3.ensures.value ∙ before) c.in_ok-plan.ensures in
     let said = subst (λ ns. AllZip (AreLookupsOf element c.args.text.now) (map said_of ns) (map lookups_of sets)) c.deref.ensures.value lookups in
     MatchResult-weaker c.report_plan.result c.report_plan.ensures
-    (λ report found. (distinct, map said_of named, map lookups_of sets, plan, c.in_ok-named.ensures, said, planned_over _ _ c.args.max_degree (map size_of c.deref-4.result.now) over plan report sizes found))
+    (λ report found. (distinct, map said_of named, map lookups_of sets, plan, c.in_ok-named.ensures, said, planned_over _ _ c.args.max_degree (map sized_lookups_of c.deref-4.result.now) over plan report sizes found))
     (λ e cause. elim cause [
       | inl memory ↦ inl memory
       | inr refusal ↦ inr (inr (distinct, inr (map said_of named, c.in_ok-named.ensures, inr (map lookups_of sets, said, inr (plan, planned, subst (λ airs. IsReportRefusal g.F.PrimeCharacteristicRing.ring g.F.PartialEq.eq c.args.max_degree airs plan e) sizes refusal)))))

@@ -1,13 +1,13 @@
 use Rattle.std.proofs.Common.{inl, inr, refl}
 use Rattle.std.proofs.lemmas.Result.{err_from_is_err_and}
 use Rattle.check_judge.specs.Found.{IsAirFound}
-use Rattle.check_judge.specs.internal.Sizes.{size_of}
+use Rattle.check_judge.specs.internal.Sizes.{sized_lookups_of}
 use Rattle.check_judge.proofs.SizeLaws.{images_zip}
 use Rattle.check_judge.proofs.plan.report_plan.Goals as goal
 
 pub returns : goal.returns
 returns g c = record {
-  airs = images_zip (IsAirFound g.F.PrimeCharacteristicRing.ring g.F.PartialEq.eq c.args.max_degree) size_of c.args.airs.now c.in_ok-reports_of.field-0.items c.in_ok-reports_of.ensures;
+  airs = images_zip (IsAirFound g.F.PrimeCharacteristicRing.ring g.F.PartialEq.eq c.args.max_degree) sized_lookups_of c.args.airs.now c.in_ok-reports_of.field-0.items c.in_ok-reports_of.ensures;
   plan_is = c.requires.planned;
   ids = c.num_ids.ensures;
   widest = c.max_message_width.ensures;

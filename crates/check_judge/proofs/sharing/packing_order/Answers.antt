@@ -3,7 +3,7 @@ use Rattle.std.proofs.lemmas.List.{length-map, map-append, take_all}
 use Rattle.std.specs.Map.{lookup, values_of}
 use Rattle.check_judge.specs.declared.sharing.LookupTuples.{LookupTuples}
 use Rattle.lookup.specs.Buses.{bus_groups, bus_names, on_bus}
-use Rattle.lookup.specs.Packing.{additive, is_additive, passing}
+use Rattle.lookup.specs.Packing.{additive_lookups, is_additive, passing}
 use Rattle.check_judge.specs.internal.Sharing.{tuples_of}
 use Rattle.lookup_model.specs.Outline.{bus_of, fields_of}
 use Rattle.check_judge.proofs.OrderLaws.{flat_kept, flat_values, grown_group, kept_group, kept_next, left_next, one_more_kept}
@@ -25,7 +25,7 @@ loop-lookup-preserved g c =
           let test : is_additive (fields_of x) ≡ true = sym w.may_be_joined.ensures ∙ w.if-may_be_joined.true in
           record {
             passing = ap (λ o. o.items) w.order-is ∙ inv.passing ∙ ap (map tuples_of) (sym (left_next fields_of (λ o. not (is_additive o)) ls i x c.loop-lookup-test.true c.lookup-item.is (ap not test)));
-            buses = one_more_kept tuples_of (λ (b : Bor (List ℕ)). b.now) (λ (v : Vec LookupTuples Global). v.items) (additive before) (fields_of x) c.loop-lookup.buses.entries c.match-lookup.buses.entries w.as_str.result w.push.new.self inv.buses (ap bus_of w.in-Global.is ∙ ap Some (sym w.as_str.ensures.value))
+            buses = one_more_kept tuples_of (λ (b : Bor (List ℕ)). b.now) (λ (v : Vec LookupTuples Global). v.items) (additive_lookups before) (fields_of x) c.loop-lookup.buses.entries c.match-lookup.buses.entries w.as_str.result w.push.new.self inv.buses (ap bus_of w.in-Global.is ∙ ap Some (sym w.as_str.ensures.value))
                 (grown_group (lookup (λ (j : Bor (List ℕ)). same_name w.as_str.result.now j.now) c.loop-lookup.buses.entries) w.or_insert-bus.result.now w.new.result w.push.new.self member (tuples_of (fields_of x)) (w.or_insert-bus.ensures.value ∙ ap (λ o. unwrap_or o w.new.result) w.in_ok-buses-in-Global.ensures.value) w.new.ensures.items w.in_ok-push-in-Global.ensures.items same)
                 (search rules)
                 ∙ ap (λ os. map (kept_group tuples_of) (bus_groups os)) (sym (kept_next fields_of is_additive ls i x c.loop-lookup-test.true c.lookup-item.is test));
@@ -52,6 +52,6 @@ returns g c =
     let joined =
     ap (flat_map (λ (v : Vec LookupTuples Global). v.items)) (take_all c.loop-group.group-index c.deref-group-items.result.now c.loop-group-test.false ∙ c.deref-group-items.ensures.value ∙ values)
     ∙ flat_values (λ (b : Bor (List ℕ)). b.now) (λ (v : Vec LookupTuples Global). v.items) c.loop-lookup.buses.entries
-    ∙ ap (flat_map (λ (group : List ℕ × List LookupTuples). group.1)) (inv.buses ∙ ap (λ t. map (kept_group tuples_of) (bus_groups (additive (map fields_of t)))) all)
-    ∙ flat_kept tuples_of (additive os) (bus_names (additive os)) in
-    c.loop-group.invariant ∙ (λ j. alone j ++ joined j) ∙ sym (map-append tuples_of (passing os) (flat_map (λ name. on_bus name (additive os)) (bus_names (additive os))))
+    ∙ ap (flat_map (λ (group : List ℕ × List LookupTuples). group.1)) (inv.buses ∙ ap (λ t. map (kept_group tuples_of) (bus_groups (additive_lookups (map fields_of t)))) all)
+    ∙ flat_kept tuples_of (additive_lookups os) (bus_names (additive_lookups os)) in
+    c.loop-group.invariant ∙ (λ j. alone j ++ joined j) ∙ sym (map-append tuples_of (passing os) (flat_map (λ name. on_bus name (additive_lookups os)) (bus_names (additive_lookups os))))

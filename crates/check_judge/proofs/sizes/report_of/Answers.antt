@@ -2,7 +2,7 @@ use Rattle.std.proofs.Common.{inl, inr, ◌∙◌, ℕ, Vec, Global, ap, map, re
 use Rattle.std.proofs.lemmas.Result.{err_from_is_err_and}
 use Rattle.lookup.specs.Lookups.{lookups_of}
 use Rattle.lookup.specs.Fewest.{AnswersDegree}
-use Rattle.check_judge.specs.internal.Sizes.{size_of}
+use Rattle.check_judge.specs.internal.Sizes.{sized_lookups_of}
 use Rattle.check_judge.specs.internal.Sharing.{AreNumbersOfParts, in_packing_order, tuples_of}
 use Rattle.lookup_model.specs.Outline.{fields_of}
 use Rattle.check_judge.proofs.SharedLaws.{shared_is}
@@ -52,5 +52,5 @@ returns g c =
       kept = c.in_ok-packed.ensures.kept;
       fewest = c.in_ok-packed.ensures.fewest;
       packed_degrees = c.in_ok-degrees_of-2.ensures;
-      shared = shared_is AnswersDegree c.args.max_degree (size_of c.args.air.now).lookups copies packed order shared c.in_ok-packed.ensures.packs.1 c.requires c.in_ok-copy.ensures in_order told;
+      shared = shared_is AnswersDegree c.args.max_degree (sized_lookups_of c.args.air.now).lookups copies packed order shared c.in_ok-packed.ensures.packs.1 c.requires c.in_ok-copy.ensures in_order told;
     }

@@ -6,7 +6,7 @@ use Rattle.lookup_model.specs.Denominators.{key_denominator}
 use Rattle.field.specs.laws.Extension.{of_laws}
 use Rattle.lookup_model.specs.Fault.{vanishes}
 use Rattle.lookup_model.specs.Message.{Message}
-use Rattle.lookup_model.specs.Plain.{counted}
+use Rattle.lookup_model.specs.Plain.{counted_messages}
 use Rattle.generation_tests.specs.PlainProgram.{as_message, as_messages}
 use Rattle.generation_tests.specs.internal.PlainProgram.{IsSumOfQuotients}
 use Rattle.generation_tests.proofs.PlainProgramLaws.{fraction_of_both, messages-more, vanishes_among}
@@ -21,7 +21,7 @@ returns-in_err-quotient_of g c =
     let i = c.loop-message.message-index in
     let m = c.message-item.result in
     let split = split_at (as_messages ms) i (as_message m) (omega (arith, c.loop-message-test.true, length-map ms as_message)) (mapped_at as_message ms i m c.loop-message-test.true c.message-item.is) in
-    rw c.from_residual.ensures (ap (λ ns. vanishes E denominator (counted E.base E.base_eq ns)) split ∙ vanishes_among laws denominator (take i (as_messages ms)) (as_message m ∷ []) (drop (i + 1) (as_messages ms)) c.in_err-quotient_of.ensures)
+    rw c.from_residual.ensures (ap (λ ns. vanishes E denominator (counted_messages E.base E.base_eq ns)) split ∙ vanishes_among laws denominator (take i (as_messages ms)) (as_message m ∷ []) (drop (i + 1) (as_messages ms)) c.in_err-quotient_of.ensures)
 
 pub loop-message-preserved : goal.loop-message-preserved
 loop-message-preserved g c =

@@ -5,7 +5,7 @@ use Rattle.lookup_model.specs.Denominators.{key_denominator}
 use Rattle.field.specs.laws.Extension.{of_laws}
 use Rattle.lookup_model.specs.Fault.{vanishes}
 use Rattle.lookup_model.specs.Message.{Key, Message}
-use Rattle.lookup_model.specs.Plain.{counted}
+use Rattle.lookup_model.specs.Plain.{counted_messages}
 use Rattle.generation_tests.specs.PlainProgram.{as_message, as_messages}
 use Rattle.generation_tests.specs.internal.PlainProgram.{IsSumOfQuotients, net_message}
 use Rattle.generation_tests.proofs.PlainProgramLaws.{fraction_of_both, keys-new, keys-seen, keys_of, sum_of_nets, vanishing_net, vanishing_nets}
@@ -20,7 +20,7 @@ returns-in_err-quotient_of g c =
     let ms = c.args.messages.now in
     let i = c.loop-index.index in
     let m = c.index-messages-index.result in
-    let alone = λ (n : _). vanishes E denominator (counted E.base E.base_eq (record { key = (as_message m).key; multiplicity = n } ∷ [])) in
+    let alone = λ (n : _). vanishes E denominator (counted_messages E.base E.base_eq (record { key = (as_message m).key; multiplicity = n } ∷ [])) in
     rw c.from_residual.ensures (vanishing_net laws denominator (as_messages ms) i (as_message m) (omega (arith, c.loop-index-test.true, length-map ms as_message)) (mapped_at as_message ms i m c.loop-index-test.true c.index-messages-index.is) (ap alone (sym c.net_of.ensures) ∙ c.in_err-quotient_of.ensures))
 
 pub loop-index-preserved : goal.loop-index-preserved

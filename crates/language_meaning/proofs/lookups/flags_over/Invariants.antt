@@ -1,11 +1,11 @@
 use Rattle.std.proofs.Common.{◌≡◌, ◌++◌, drop, map, take}
 use Rattle.expressions.specs.Tree.{tree_of}
 use Rattle.field.specs.Ring.{of_nat}
-use Rattle.language_meaning.specs.Lookups.{part_of}
+use Rattle.language_meaning.specs.Lookups.{sent_part_of}
 use Rattle.language_meaning.specs.Values.{meant_of}
 use Rattle.language_meaning.specs.Columns.{flag_or_one}
 use Rattle.language_meaning.specs.Expressions.{tree_in}
 use Rattle.language_meaning.proofs.lookups.flags_over.Given as goal
 
 abbrev pub invariant-loop-part : goal.invariant-loop-part
-invariant-loop-part g l = map tree_of l.flags.items ≡ map (λ p. tree_in (of_nat g.F.PrimeCharacteristicRing.ring) (flag_or_one p.flag)) (map part_of (take l.part-index l.parts))
+invariant-loop-part g l = map tree_of l.flags.items ≡ map (λ p. tree_in (of_nat g.F.PrimeCharacteristicRing.ring) (flag_or_one p.flag)) (map sent_part_of (take l.part-index l.parts))

@@ -1,8 +1,8 @@
 use Rattle.std.proofs.Common.{◌≡◌, ◌+◌, drop, map, max}
-use Rattle.language_meaning.specs.Lookups.{part_of}
+use Rattle.language_meaning.specs.Lookups.{sent_part_of}
 use Rattle.language_meaning.specs.Columns.{greatest_weight, sum_of_weights}
 use Rattle.language_meaning.proofs.lookups.sum_of_weights.Given as goal
 
 -- the sum so far and that of the messages that are left is that of all
 abbrev pub invariant-loop-part : goal.invariant-loop-part
-invariant-loop-part l = l.sum + sum_of_weights (map part_of (drop l.part-index l.parts)) ≡ sum_of_weights (map part_of l.parts)
+invariant-loop-part l = l.sum + sum_of_weights (map sent_part_of (drop l.part-index l.parts)) ≡ sum_of_weights (map sent_part_of l.parts)

@@ -1,7 +1,7 @@
 use Rattle.std.proofs.Common.{◌≡◌, ◌++◌, drop, map, take}
 use Rattle.expressions.specs.Tree.{tree_of}
 use Rattle.field.specs.Ring.{of_nat}
-use Rattle.language_meaning.specs.Lookups.{part_of}
+use Rattle.language_meaning.specs.Lookups.{sent_part_of}
 use Rattle.language_meaning.specs.Values.{meant_of}
 use Rattle.language_meaning.specs.Columns.{flag_or_one}
 use Rattle.language_meaning.specs.Expressions.{tree_in}

@@ -6,7 +6,7 @@ use Rattle.field.specs.laws.Extension.{of_laws}
 use Rattle.lookup_generation.proofs.MadeRows.{all_ends, made_cells, made_faultless, made_terminal, next_end, plain_answer}
 use Rattle.lookup_generation.proofs.RangeFaults.{refused_joined}
 use Rattle.lookup_generation.proofs.RangeLaws.{joined, length-made}
-use Rattle.lookup_generation.specs.Ranges.{shifted}
+use Rattle.lookup_generation.specs.Ranges.{shifted_matrix}
 use Rattle.lookup_generation.specs.internal.Progress.{HasRows}
 use Rattle.lookup_model.proofs.Lookups.PlainResults.{IsShaped-product, plain_matrix-some, plain_terminal_of-some}
 use Rattle.lookup_model.proofs.Lookups.SentRows.{length-sent_rows, length-sent_rows-at}
@@ -51,7 +51,7 @@ loop-end-preserved g c =
     let cells = c.loop-end.cells.items in (
       next.1,
       subst (λ all. HasRows E denominator rows end all c.add-sum.result)
-          (sym (c.in_ok-append.ensures.items ∙ ap (λ t. cells ++ t) (c.into_values.ensures ∙ ap (λ m. m.values) c.shift.ensures ∙ ap (λ m. (shifted E.ring c.loop-end.sum m).values) part)))
+          (sym (c.in_ok-append.ensures.items ∙ ap (λ t. cells ++ t) (c.into_values.ensures ∙ ap (λ m. m.values) c.shift.ensures ∙ ap (λ m. (shifted_matrix E.ring c.loop-end.sum m).values) part)))
           (joined laws denominator rows (length lookups) wide first end next.0 (omega (arith, high, next.2)) cells c.loop-end.sum c.add-sum.result c.loop-end.invariant.1 made.2
           (g.met.EF.PrimeCharacteristicRing.add_is _ _ _ c.add-sum.ensures ∙ ap (E.ring.add c.loop-end.sum) made.1)),
     )

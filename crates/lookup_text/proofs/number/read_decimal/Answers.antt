@@ -2,7 +2,7 @@ use Rattle.std.proofs.Common.{◌≡◌, ◌<◌, ◌≤◌, ℕ, List, Option, 
 use Rattle.std.specs.Str.Parse.{AllDigits, digits_value}
 use Rattle.std.proofs.lemmas.Bool.Decides.{nat_tests}
 use Rattle.std.proofs.lemmas.Int.Digits.{digits_more, digits_value_more}
-use Rattle.lookup_text.specs.Numbers.{decimal_in, decimal_of, short}
+use Rattle.lookup_text.specs.Numbers.{decimal_in, decimal_of, short_number}
 use Rattle.lookup_text.proofs.NumberLaws.{decimal_of-digits, decimal_of-empty, decimal_of-other}
 use Rattle.lookup_text.proofs.number.read_decimal.Goals as goal
 
@@ -18,14 +18,14 @@ loop-byte-preserved c =
     let within : c.loop-byte.byte-index < length c.args.word.now = omega arith in
     record {
       digits = digits_more 10 c.args.word.now c.loop-byte.byte-index within c.loop-byte.invariant.digits c.if-not-is_ascii_digit.ensures.bound;
-      value = c.more-value.ensures (digits_value 10 (take c.loop-byte.byte-index c.args.word.now)) c.loop-byte.invariant.value ∙ ap short (sym (digits_value_more 10 c.args.word.now c.loop-byte.byte-index within));
+      value = c.more-value.ensures (digits_value 10 (take c.loop-byte.byte-index c.args.word.now)) c.loop-byte.invariant.value ∙ ap short_number (sym (digits_value_more 10 c.args.word.now c.loop-byte.byte-index within));
     }
 
 -- all of a word was read
-whole : (word : List ℕ) (i : ℕ) (value : Option ℕ) → 0 < length word → length word ≤ i → AllDigits 10 (take i word) → value ≡ short (digits_value 10 (take i word)) → decimal_of word ≡ decimal_in value
+whole : (word : List ℕ) (i : ℕ) (value : Option ℕ) → 0 < length word → length word ≤ i → AllDigits 10 (take i word) → value ≡ short_number (digits_value 10 (take i word)) → decimal_of word ≡ decimal_in value
 whole word i value some end digits is =
     let all : take i word ≡ word = take_all i word end in
-    decimal_of-digits word some (subst (AllDigits 10) all digits) ∙ ap (λ ds. decimal_in (short (digits_value 10 ds))) (sym all) ∙ ap decimal_in (sym is)
+    decimal_of-digits word some (subst (AllDigits 10) all digits) ∙ ap (λ ds. decimal_in (short_number (digits_value 10 ds))) (sym all) ∙ ap decimal_in (sym is)
 
 pub returns-in-Some : goal.returns-in-Some
 returns-in-Some c =

@@ -1,10 +1,10 @@
 use Rattle.std.proofs.Common.{◌≡◌, take}
 use Rattle.std.specs.Str.Parse.{AllDigits, digits_value}
-use Rattle.lookup_text.specs.Numbers.{short}
+use Rattle.lookup_text.specs.Numbers.{short_number}
 use Rattle.lookup_text.proofs.number.read_decimal.Given as goal
 
 abbrev pub invariant-loop-byte : goal.invariant-loop-byte
 invariant-loop-byte l = record {
   digits : AllDigits 10 (take l.byte-index l.word);
-  value : l.value ≡ short (digits_value 10 (take l.byte-index l.word));
+  value : l.value ≡ short_number (digits_value 10 (take l.byte-index l.word));
 }

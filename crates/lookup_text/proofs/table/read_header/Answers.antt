@@ -2,7 +2,7 @@ use Rattle.std.proofs.Common.{◌≡◌, ◌++◌, ◌∷◌, ◌+◌, [], List,
 use Rattle.std.specs.List.{list_any}
 use Rattle.std.specs.Str.{bytes_eq}
 use Rattle.std.proofs.lemmas.List.{map_push}
-use Rattle.lookup_text.specs.Tables.{is_among, names_of}
+use Rattle.lookup_text.specs.Tables.{is_name_among, names_of}
 use Rattle.lookup_text.specs.internal.Tables.{cells_in}
 use Rattle.lookup_text.proofs.TableLaws.{header-none, header-some, is_among-items, names-empty, names-end, names-more, names-repeated, place-more, size}
 use Rattle.lookup_text.proofs.table.read_header.Goals as goal
@@ -27,13 +27,13 @@ returns-then-is_empty-2 c =
 pub returns-then-is_among : goal.returns-then-is_among
 returns-then-is_among c =
     let name : List ℕ = c.split_cell.result.0.now in
-    let old : is_among name (names_of c.loop-rest.names.items) ≡ true = is_among-items name c.loop-rest.names.items ∙ ap (list_any (λ other. bytes_eq other.items name)) (sym c.deref.ensures.value) ∙ sym c.if-is_among.ensures in
+    let old : is_name_among name (names_of c.loop-rest.names.items) ≡ true = is_among-items name c.loop-rest.names.items ∙ ap (list_any (λ other. bytes_eq other.items name)) (sym c.deref.ensures.value) ∙ sym c.if-is_among.ensures in
     names-repeated c.loop-rest.at (names_of c.loop-rest.names.items) (left c.loop-rest.rest) _ c.loop-rest.invariant.told name (left c.split_cell.result.1) (ap left c.in-Some.is ∙ c.split_cell.ensures.cells) (sym c.if-is_empty-2.ensures) old
 
 pub loop-rest-preserved : goal.loop-rest-preserved
 loop-rest-preserved c =
     let name : List ℕ = c.split_cell.result.0.now in
-    let new : is_among name (names_of c.loop-rest.names.items) ≡ false = is_among-items name c.loop-rest.names.items ∙ ap (list_any (λ other. bytes_eq other.items name)) (sym c.deref.ensures.value) ∙ sym c.if-is_among.ensures in
+    let new : is_name_among name (names_of c.loop-rest.names.items) ≡ false = is_among-items name c.loop-rest.names.items ∙ ap (list_any (λ other. bytes_eq other.items name)) (sym c.deref.ensures.value) ∙ sym c.if-is_among.ensures in
     let old = c.loop-rest.names.items in
     let items : names_of c.push.new.self.items ≡ names_of old ++ name ∷ [] = ap names_of c.in_ok-push.ensures.items ∙ map_push (λ n. n.items) old c.in_ok-from_slice.field-0 ∙ ap (λ n. names_of old ++ n ∷ []) c.in_ok-from_slice.ensures.items in
     record {

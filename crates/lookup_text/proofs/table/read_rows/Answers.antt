@@ -2,8 +2,8 @@ use Rattle.std.proofs.Common.{◌≡◌, ◌<◌, ◌≤◌, ◌+◌, ◌==◌, 
 use Rattle.std.proofs.lemmas.Bool.Decides.{nat_tests}
 use Rattle.std.proofs.lemmas.List.{length-drop}
 use Rattle.std.proofs.lemmas.Result.{err_from_is_err_and}
-use Rattle.lookup_text.specs.Faults.{Fails}
-use Rattle.lookup_text.specs.Tables.{cells_of, row_at}
+use Rattle.lookup_text.specs.Faults.{IsTextFaultOrMemory}
+use Rattle.lookup_text.specs.Tables.{cells_of_line, row_at}
 use Rattle.lookup_text.specs.internal.Tables.{with_numbers}
 use Rattle.lookup_text.proofs.TableLaws.{rows-end, rows-fault, rows-more}
 use Rattle.lookup_text.proofs.TokenLaws.{length-take_while}
@@ -13,14 +13,14 @@ pub returns-in_err-push_row : goal.returns-in_err-push_row
 returns-in_err-push_row c =
     let p = err_from_is_err_and c.from_residual.result c.from_residual.ensures.1 in
     let some : 0 < length c.loop-rest.rest.now = let test = c.loop-rest-test.ensures in grind (arith, nat_tests) in
-    let fails = subst (λ (line : List ℕ). Fails c.in_err-push_row.field-0.0 (with_numbers c.loop-rest.cells.items (row_at c.args.modulus c.loop-rest.at c.args.width (cells_of line)))) c.without_return.ensures c.in_err-push_row.ensures in
+    let fails = subst (λ (line : List ℕ). IsTextFaultOrMemory c.in_err-push_row.field-0.0 (with_numbers c.loop-rest.cells.items (row_at c.args.modulus c.loop-rest.at c.args.width (cells_of_line line)))) c.without_return.ensures c.in_err-push_row.ensures in
     rw (p.1, p.2)
     (rows-fault c.args.modulus c.args.width c.loop-rest.at c.line_length-len.result c.loop-rest.cells.items c.loop-rest.rest.now _ some c.line_length-len.ensures c.loop-rest.invariant.told c.in_err-push_row.field-0.0 fails)
 
 pub loop-rest-preserved : goal.loop-rest-preserved
 loop-rest-preserved c =
     let some : 0 < length c.loop-rest.rest.now = let test = c.loop-rest-test.ensures in grind (arith, nat_tests) in
-    let row = subst (λ (line : List ℕ). with_numbers c.loop-rest.cells.items (row_at c.args.modulus c.loop-rest.at c.args.width (cells_of line)) ≡ Ok c.push_row.new.cells.items) c.without_return.ensures c.in_ok-push_row.ensures in
+    let row = subst (λ (line : List ℕ). with_numbers c.loop-rest.cells.items (row_at c.args.modulus c.loop-rest.at c.args.width (cells_of_line line)) ≡ Ok c.push_row.new.cells.items) c.without_return.ensures c.in_ok-push_row.ensures in
     let most : c.line_length-len.result ≤ length c.loop-rest.rest.now = omega (arith, c.line_length-len.ensures, length-take_while (λ b. not (b == 10)) c.loop-rest.rest.now) in
     let rest = length-drop (c.line_length-len.result + 1) c.loop-rest.rest.now in
     let place = c.loop-rest.invariant.place some in

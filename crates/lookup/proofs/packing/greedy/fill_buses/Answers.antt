@@ -9,7 +9,7 @@ use Rattle.lookup_model.specs.Outline.{Outline, fields_of}
 use Rattle.lookup_model.specs.Records.{HasEqualLengths}
 use Rattle.lookup_model.specs.declared.types.Lookup.{Lookup}
 use Rattle.lookup.specs.Buses.{bus_groups}
-use Rattle.lookup.specs.Packing.{additive, is_additive, passing}
+use Rattle.lookup.specs.Packing.{additive_lookups, is_additive, passing}
 use Rattle.lookup.specs.internal.Fillings.{IsFilled}
 use Rattle.lookup.proofs.BusLaws.{values_hold}
 use Rattle.lookup.proofs.ListLaws.{kept_more, kept_pushed, left_out}
@@ -59,10 +59,10 @@ returns g c =
     let inv = c.loop-lookup.invariant in
     let columns = c.loop-lookup.columns.items in
     let none = nil_from_length (into_iter_items c.loop-lookup.lookup-iterator) (omega (arith, c.in-None.ensures.steps.0, c.loop-lookup.lookup-iterator.rest.ok.0)) in
-    let all = sym (append-nil inv.seen) ∙ ap (λ t. inv.seen ++ additive (map fields_of t)) (sym none) ∙ inv.all in
+    let all = sym (append-nil inv.seen) ∙ ap (λ t. inv.seen ++ additive_lookups (map fields_of t)) (sym none) ∙ inv.all in
     let held = values_hold (IsFilled (g.T.TrialDegrees.keeps c.args.degrees.now) (g.T.TrialDegrees.answers c.args.degrees.now) c.args.max_degree) (bus_groups inv.seen) c.loop-lookup.buses.entries inv.buses in (
       sym (append-nil (map fields_of columns)) ∙ ap (λ t. map fields_of columns ++ passing (map fields_of t)) (sym none) ∙ inv.pass,
       inv.lengths,
-      subst (λ t. AllZip (IsFilled (g.T.TrialDegrees.keeps c.args.degrees.now) (g.T.TrialDegrees.answers c.args.degrees.now) c.args.max_degree) (map (λ g. g.1) (bus_groups (additive (map fields_of c.args.lookups.items)))) t) (sym c.in_ok-buses.ensures)
+      subst (λ t. AllZip (IsFilled (g.T.TrialDegrees.keeps c.args.degrees.now) (g.T.TrialDegrees.answers c.args.degrees.now) c.args.max_degree) (map (λ g. g.1) (bus_groups (additive_lookups (map fields_of c.args.lookups.items)))) t) (sym c.in_ok-buses.ensures)
           (subst (λ (os : List (Outline (SymbolicExpression g.row.F.Denot))). AllZip (IsFilled (g.T.TrialDegrees.keeps c.args.degrees.now) (g.T.TrialDegrees.answers c.args.degrees.now) c.args.max_degree) (map (λ g. g.1) (bus_groups os)) (values_of c.loop-lookup.buses.entries)) all held),
     )

@@ -13,7 +13,7 @@ use Rattle.lookup_model.specs.declared.types.Lookup.{Lookup}
 use Rattle.lookup.specs.Buses.{bus_groups}
 use Rattle.lookup.specs.BusWidths.{HaveBusWidths}
 use Rattle.lookup.specs.internal.Fillings.{IsFilled}
-use Rattle.lookup.specs.Packing.{IsFilling, IsStuck, additive, joined, passing}
+use Rattle.lookup.specs.Packing.{IsFilling, IsStuck, additive_lookups, joined_lookup, passing}
 use Rattle.lookup.specs.Trials.{IsMember}
 use Rattle.lookup.proofs.KeptLaws.{kept_flags, kept_messages, kept_nets, kept_other_buses, kept_weight, kept_widths}
 use Rattle.lookup.proofs.ListLaws.{columns_behind}
@@ -28,9 +28,9 @@ loop-bus-init g c =
     let filled = c.in_ok-columns.ensures in record {
       lengths = filled.1;
       earlier = [];
-      later = map (λ g. g.1) (bus_groups (additive (map fields_of c.args.lookups.items)));
+      later = map (λ g. g.1) (bus_groups (additive_lookups (map fields_of c.args.lookups.items)));
       split = refl;
-      left = subst (λ t. AllZip (IsFilled (g.T.TrialDegrees.keeps c.args.degrees.now) (g.T.TrialDegrees.answers c.args.degrees.now) c.args.max_degree) (map (λ g. g.1) (bus_groups (additive (map fields_of c.args.lookups.items)))) t) (sym gives) filled.2;
+      left = subst (λ t. AllZip (IsFilled (g.T.TrialDegrees.keeps c.args.degrees.now) (g.T.TrialDegrees.answers c.args.degrees.now) c.args.max_degree) (map (λ g. g.1) (bus_groups (additive_lookups (map fields_of c.args.lookups.items)))) t) (sym gives) filled.2;
       added = ([], tt, filled.0 ∙ sym (append-nil (passing (map fields_of c.args.lookups.items))));
     }
 
@@ -52,7 +52,7 @@ loop-bus-preserved g c =
       added = (
         inv.added.0 ++ columns.cut ∷ [],
         all_zipped_more (λ group cut. IsFilling answers c.args.max_degree cut group) inv.earlier inv.added.0 members columns.cut inv.added.1 columns.filling,
-        columns_behind fields_of joined (passing (map fields_of c.args.lookups.items)) _ _ _ inv.added.0 columns.cut columns_are inv.added.2 (map-append fields_of bus.closed.items (bus.last ∷ []) ∙ columns.columns_are),
+        columns_behind fields_of joined_lookup (passing (map fields_of c.args.lookups.items)) _ _ _ inv.added.0 columns.cut columns_are inv.added.2 (map-append fields_of bus.closed.items (bus.last ∷ []) ∙ columns.columns_are),
       );
     }
 
@@ -65,7 +65,7 @@ returns-in_err-append_columns-clause-packs g c =
     let (members, later, later_is, filled, left) = AllZip-next (IsFilled (g.T.TrialDegrees.keeps c.args.degrees.now) (g.T.TrialDegrees.answers c.args.degrees.now) c.args.max_degree) inv.later bus _ (subst (λ t. AllZip (IsFilled (g.T.TrialDegrees.keeps c.args.degrees.now) (g.T.TrialDegrees.answers c.args.degrees.now) c.args.max_degree) inv.later t) c.in-Some.ensures.steps.0 inv.left) in
     let p = err_from_is_err_and c.from_residual-in_err-append_columns.result c.from_residual-in_err-append_columns.ensures.1 in
     let widths = subst (λ (t : List (Lookup g.row.F.Denot)). HaveBusWidths (map fields_of t)) c.deref.ensures.value c.in_ok-assert_bus_widths.ensures in
-    let first = λ (stuck : IsStuck (g.T.TrialDegrees.answers c.args.degrees.now) c.args.max_degree members e). fill_refusal (g.T.TrialDegrees.answers c.args.degrees.now) c.args.max_degree before (map (λ g. g.1) (bus_groups (additive before))) e (groups_of (additive before)) (record {
+    let first = λ (stuck : IsStuck (g.T.TrialDegrees.answers c.args.degrees.now) c.args.max_degree members e). fill_refusal (g.T.TrialDegrees.answers c.args.degrees.now) c.args.max_degree before (map (λ g. g.1) (bus_groups (additive_lookups before))) e (groups_of (additive_lookups before)) (record {
       before = inv.earlier;
       item = members;
       after = later;
@@ -90,7 +90,7 @@ returns-clause-packs g c =
     let whole = sym (append-nil inv.earlier) ∙ ap (λ t. inv.earlier ++ t) (sym no_later) ∙ inv.split in
     let answers = g.T.TrialDegrees.answers c.args.degrees.now in (
       subst (λ (t : List (Lookup g.row.F.Denot)). HaveBusWidths (map fields_of t)) c.deref.ensures.value c.in_ok-assert_bus_widths.ensures,
-      all_packed answers c.args.max_degree before (map (λ g. g.1) (bus_groups (additive before))) (passing before) _ _ (groups_of (additive before)) refl
+      all_packed answers c.args.max_degree before (map (λ g. g.1) (bus_groups (additive_lookups before))) (passing before) _ _ (groups_of (additive_lookups before)) refl
           (subst (λ (t : List (List (Outline (SymbolicExpression g.row.F.Denot)))). AreColumnsAdded answers c.args.max_degree t (passing before) (map fields_of c.loop-bus.columns.items)) whole inv.added)
           c.in_columns.ensures.fields,
     )

@@ -5,7 +5,7 @@ use Rattle.expressions.specs.declared.base_expression.SymbolicExpression.{Symbol
 use Rattle.lookup_model.specs.Outline.{Outline, fields_of}
 use Rattle.lookup_model.specs.Records.{HasEqualLengths}
 use Rattle.lookup.specs.Buses.{bus_groups}
-use Rattle.lookup.specs.Packing.{additive, passing}
+use Rattle.lookup.specs.Packing.{additive_lookups, passing}
 use Rattle.lookup.specs.internal.Fillings.{IsFilled}
 use Rattle.lookup.proofs.PackLaws.{AreColumnsAdded}
 use Rattle.lookup.proofs.packing.greedy.pack_by.Given as goal
@@ -15,7 +15,7 @@ invariant-loop-bus g l = record {
   lengths : All HasEqualLengths l.columns.items;
   earlier : List (List (Outline (SymbolicExpression g.row.F.Denot)));
   later : List (List (Outline (SymbolicExpression g.row.F.Denot)));
-  split : earlier ++ later ≡ map (λ g. g.1) (bus_groups (additive (map fields_of l.fn.lookups.items)));
+  split : earlier ++ later ≡ map (λ g. g.1) (bus_groups (additive_lookups (map fields_of l.fn.lookups.items)));
   left : AllZip (IsFilled (g.T.TrialDegrees.keeps l.fn.degrees) (g.T.TrialDegrees.answers l.fn.degrees) l.fn.max_degree) later (into_iter_items l.bus-iterator);
   added : AreColumnsAdded (g.T.TrialDegrees.answers l.fn.degrees) l.fn.max_degree earlier (passing (map fields_of l.fn.lookups.items)) (map fields_of l.columns.items);
 }

@@ -2,7 +2,7 @@ use Rattle.std.proofs.Common.{◌≤◌, ◌++◌, ◌∷◌, [], ap, arith, len
 use Rattle.std.proofs.lemmas.List.{map-append, take_all}
 use Rattle.std.proofs.lemmas.Option.{get_or_from_slice_get, slice_get_within}
 use Rattle.lists.proofs.Images.{images_more}
-use Rattle.lookup_debug.specs.BusTable.{entry_of, place_of}
+use Rattle.lookup_debug.specs.BusTable.{entry_of, location_and_count_of}
 use Rattle.lookup_debug.specs.internal.Places.{placed_entry}
 use Rattle.lookup_debug.proofs.PlaceLaws.{entry_is}
 use Rattle.lookup_debug.proofs.places.TuplePlaces.new.Goals as goal
@@ -18,7 +18,7 @@ loop-index-preserved g c =
     let there = c.entry_at-net.ensures in
     let made = c.in_ok-new.field-0 in
     let is = c.in_ok-new.ensures in
-    let none = ap (map place_of) is.3 ∙ sym (take_all limit [] (omega arith)) in
+    let none = ap (map location_and_count_of) is.3 ∙ sym (take_all limit [] (omega arith)) in
     ap (map entry_of) c.in_ok-push.ensures.items
     ∙ map-append entry_of c.loop-index.tuples.items (made ∷ [])
     ∙ (λ i. c.loop-index.invariant i ++ entry_is R eq g.met.F.PrimeCharacteristicRing.eq_is limit [] made entry is.0 is.1 (is.2, none) i ∷ [])

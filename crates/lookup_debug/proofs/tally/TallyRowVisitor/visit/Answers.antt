@@ -1,7 +1,7 @@
 use Rattle.std.proofs.Common.{arith, ap, drop, length, map, subst, ◌∙◌, ◌+◌, ◌≡◌}
 use Rattle.std.proofs.lemmas.Result.{on_ok_weaker}
 use Rattle.lookup_rows.specs.TraceBuilder.{builder_window}
-use Rattle.lookup_debug.specs.BusTable.{capped}
+use Rattle.lookup_debug.specs.BusTable.{saturated_usize}
 use Rattle.lookup_debug.specs.Contributions.{contributions_at, location_of}
 use Rattle.field.specs.Signs.{is_negative}
 use Rattle.lookup_debug.specs.internal.Arena.{amounts_in}
@@ -39,8 +39,8 @@ returns g c =
     (λ merged. record {
       collects = (merged.0, λ cs same. merged.1 ∙ nets_go_on g.F.PrimeCharacteristicRing.lawful eq g.met.F.PrimeCharacteristicRing.eq_is (amounts_in before.contributions) (amounts_in pushed) cs more same appends.1);
       counts = record {
-        sent = c.saturating_add-self.ensures ∙ ap (λ n. capped (before.sent + n)) counts.0 ∙ capped-later before.sent _;
-        received = c.saturating_add-self-2.ensures ∙ ap (λ n. capped (before.received + n)) counts.1 ∙ capped-later before.received _;
+        sent = c.saturating_add-self.ensures ∙ ap (λ n. saturated_usize (before.sent + n)) counts.0 ∙ capped-later before.sent _;
+        received = c.saturating_add-self-2.ensures ∙ ap (λ n. saturated_usize (before.received + n)) counts.1 ∙ capped-later before.received _;
       };
     })
     c.merge_at_limit.ensures
