@@ -5,10 +5,10 @@ set -eu
 cd "$(dirname "$0")/.."
 kit=$(dirname "$(rt doc)")
 tools/archive bench >/dev/null
-tools/archive lookup_c >/dev/null
+tools/archive c_calls >/dev/null
 work=$(mktemp -d)
 trap 'rm -rf "$work"' EXIT
-export VOLGWAIN_LIBRARY="$PWD/crates/lookup_c/out/liblookup_c.a" VOLGWAIN_HEAP="$kit/c/liblibc_c.a"
+export VOLGWAIN_LIBRARY="$PWD/crates/c_calls/out/liblookup_c.a" VOLGWAIN_HEAP="$kit/c/liblibc_c.a"
 cargo build --quiet --release --offline --manifest-path bindings/rust/Cargo.toml --target-dir "$work"
 rustc -O --edition 2024 bench/bindings_driver.rs -o "$work/driver" \
     --extern "volgwain=$work/release/libvolgwain.rlib" \

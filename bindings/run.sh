@@ -32,8 +32,8 @@ if [ -n "$archive" ]; then
     library=$archive
     say "taking $library as it is"
 else
-    library=$top/crates/lookup_c/out/liblookup_c.a
-    tools/archive lookup_c
+    library=$top/crates/c_calls/out/liblookup_c.a
+    tools/archive c_calls
 fi
 
 # Says that a command is missing, and what is not tested without it.

@@ -16,7 +16,7 @@ from told import told
 
 TOP = os.path.dirname(os.path.dirname(os.path.realpath(__file__)))
 # The crate that calls the program's code once for each field, the file of these calls, and such a call: an arm of a match.
-CALLER, CALLS = "lookup_program", "src/command.rt"
+CALLER, CALLS = "example_machines", "src/command.rt"
 CALL = re.compile(r'^ {8}"(\w+)" => (?:\{\n {12}answer_over::<.*\n {8}\}\n|answer_over::<.*\n)', re.MULTILINE)
 # How many seconds pass between two lines on what is being done.
 PAUSE = 5

@@ -3,4 +3,4 @@
 set -eu
 cd "$(dirname "${BASH_SOURCE[0]}")/../.."
 tools/run-cases crates/lookup_run/out/lookup_run cases/*.txt
-tools/run-cases crates/lookup_check/out/lookup_check cases/check/*.txt
+tools/run-cases crates/check_program/out/check_program cases/check/*.txt

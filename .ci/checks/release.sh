@@ -27,8 +27,8 @@ clone() {
   git -C "$1" add -A
   git -C "$1" diff --cached --quiet ||
     git -C "$1" -c user.name=release.sh -c user.email= -c commit.gpgsign=false commit -q -m "Not committed yet"
-  mkdir -p "$1/crates/lookup_c/out"
-  cp crates/lookup_c/out/liblookup_c.a crates/lookup_c/out/liblookup_c.a.proof "$1/crates/lookup_c/out"
+  mkdir -p "$1/crates/c_calls/out"
+  cp crates/c_calls/out/liblookup_c.a crates/c_calls/out/liblookup_c.a.proof "$1/crates/c_calls/out"
 }
 
 # A block of the README of the release: which one of a language.
@@ -38,8 +38,8 @@ block() {
 
 for licence in LICENSE-*; do cmp "$licence" "bindings/rust/$licence"; done
 
-tools/archive lookup_c
-tools/archive --proof lookup_c >/dev/null || fail "the library is not known to be proved from these sources"
+tools/archive c_calls
+tools/archive --proof c_calls >/dev/null || fail "the library is not known to be proved from these sources"
 
 export GIT_AUTHOR_DATE=2000-01-01T00:00:00Z GIT_COMMITTER_DATE=2000-01-01T00:00:00Z
 clone "$work/one"

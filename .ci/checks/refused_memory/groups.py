@@ -1,4 +1,4 @@
-"""The groups of calls of the program `refused_memory`, with each request for memory refused in turn."""
+"""The groups of calls of the program `gate_memory`, with each request for memory refused in turn."""
 import collections
 
 from .judge import NEVER, STATES, Judge, listed, parted

@@ -4,8 +4,8 @@ use Rattle.std.proofs.lemmas.List.{take_more}
 use Rattle.std.proofs.lemmas.Option.{slice_get_cases, slice_get-map}
 use Rattle.std.proofs.lemmas.Slice.Zip.{all_zipped_more}
 use Rattle.std.specs.List.{AllZip}
-use Rattle.expressions.specs.Builder.{MeansRow}
-use Rattle.expressions.specs.declared.error.AirError.{AirError}
+use Rattle.air_expressions.specs.Builder.{MeansRow}
+use Rattle.air_expressions.specs.declared.error.AirError.{AirError}
 use Rattle.air.specs.Cell.{IsNarrow}
 
 -- what means a variable of a row is, at each window that is stood for, the cell at its index

@@ -3,22 +3,22 @@ use Rattle.std.proofs.Common.{◌≡◌, ℕ, zero, suc, ◌+◌, ◌<◌, List,
 use Rattle.std.proofs.lemmas.Option.{slice_get_within}
 use Rattle.field.specs.Ring.{Ring}
 use Rattle.air.proofs.VariableRows.{means_cells}
-use Rattle.expressions.specs.Builder.{MeansRow}
-use Rattle.expressions.specs.Degree.{degree_of, entry_degree}
-use Rattle.expressions.specs.ExtDegree.{ext_degree_of, ext_entry_degree}
-use Rattle.expressions.specs.ExtMeaning.{ext_cells_of, ext_variable_value}
-use Rattle.expressions.specs.ExtTree.{ExtTree, variable}
-use Rattle.expressions.specs.Layout.{EntryFits, Fits}
-use Rattle.expressions.specs.Meaning.{cells_of, variable_value}
-use Rattle.expressions.specs.Tree.{Tree, leaf}
+use Rattle.air_expressions.specs.Builder.{MeansRow}
+use Rattle.air_expressions.specs.Degree.{degree_of, entry_degree}
+use Rattle.air_expressions.specs.ExtDegree.{ext_degree_of, ext_entry_degree}
+use Rattle.air_expressions.specs.ExtMeaning.{ext_cells_of, ext_variable_value}
+use Rattle.air_expressions.specs.ExtTree.{ExtTree, variable}
+use Rattle.air_expressions.specs.Layout.{EntryFits, Fits}
+use Rattle.air_expressions.specs.Meaning.{cells_of, variable_value}
+use Rattle.air_expressions.specs.Tree.{Tree, leaf}
 use Rattle.air.specs.internal.Variables.{AreVariables, IsVariableRow}
-use Rattle.expressions.specs.Window.{ExtWindow, Window}
-use Rattle.expressions.specs.declared.base_expression.BaseLeaf.TheVariants.{Variable}
-use Rattle.expressions.specs.declared.layout.AirLayout.{AirLayout}
-use Rattle.expressions.specs.declared.variable.BaseEntry.{BaseEntry}
-use Rattle.expressions.specs.declared.variable.ExtEntry.{ExtEntry}
-use Rattle.expressions.specs.declared.variable.SymbolicVariable.{SymbolicVariable}
-use Rattle.expressions.specs.declared.variable.SymbolicVariableExt.{SymbolicVariableExt}
+use Rattle.air_expressions.specs.Window.{ExtWindow, Window}
+use Rattle.air_expressions.specs.declared.base_expression.BaseLeaf.TheVariants.{Variable}
+use Rattle.air_expressions.specs.declared.layout.AirLayout.{AirLayout}
+use Rattle.air_expressions.specs.declared.variable.BaseEntry.{BaseEntry}
+use Rattle.air_expressions.specs.declared.variable.ExtEntry.{ExtEntry}
+use Rattle.air_expressions.specs.declared.variable.SymbolicVariable.{SymbolicVariable}
+use Rattle.air_expressions.specs.declared.variable.SymbolicVariableExt.{SymbolicVariableExt}
 
 -- a row of base variables means the cells that their entry is looked up in
 pub base_row_means : {F : Type 0} (R : Ring F) (stands_for : Window F → Type 0) (entry : BaseEntry) (width : ℕ) (cells : Window F → List F) (vs : List (SymbolicVariable F)) → IsVariableRow (λ v. v.entry) (λ v. v.index) entry width vs → ((w : Window F) → cells_of w entry ≡ cells w) → ((w : Window F) → stands_for w → length (cells w) ≡ width) → MeansRow stands_for (λ v w. variable_value R w v) width cells vs

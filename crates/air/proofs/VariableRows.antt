@@ -3,7 +3,7 @@ use Rattle.std.proofs.Common.{◌≡◌, ℕ, ◌+◌, ◌-◌, ◌*◌, ◌<◌
 use Rattle.std.proofs.Math.Seq.{drop-append_seam, take-append_seam}
 use Rattle.std.proofs.lemmas.List.{drop_all, take_all}
 use Rattle.matrix.specs.Matrix.{row}
-use Rattle.expressions.specs.Builder.{MeansRow}
+use Rattle.air_expressions.specs.Builder.{MeansRow}
 use Rattle.air.specs.internal.Variables.{AreVariables, IsVariableRow, IsVariableMatrix}
 
 -- one more variable with the next index makes the list longer

@@ -1,9 +1,9 @@
 -- The cells of a row, as expressions, and why there is none.
 use Rattle.std.specs.Prelude.{◌≡◌, ◌⊎◌, ◌<◌, ℕ, List, Some, slice_get}
-use Rattle.expressions.specs.declared.error.AirError.{AirError}
-use Rattle.expressions.specs.declared.error.AirError.TheVariants.{LayoutMismatch, Memory}
-use Rattle.expressions.specs.declared.error.LayoutPart.TheVariants.{Main}
-use Rattle.expressions.specs.declared.layout.AirLayout.{AirLayout}
+use Rattle.air_expressions.specs.declared.error.AirError.{AirError}
+use Rattle.air_expressions.specs.declared.error.AirError.TheVariants.{LayoutMismatch, Memory}
+use Rattle.air_expressions.specs.declared.error.LayoutPart.TheVariants.{Main}
+use Rattle.air_expressions.specs.declared.layout.AirLayout.{AirLayout}
 
 -- an expression whose value is this cell of the row, at each window that the builder stands for
 abbrev pub IsCell : {E W F : Type 0} → (E → W → F) → (W → Type 0) → (W → List F) → ℕ → E → Type 0

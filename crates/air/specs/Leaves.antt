@@ -1,18 +1,18 @@
 -- Facts about single variables and about layouts that do not change, for builders that record.
 use Rattle.std.specs.Prelude.{◌≡◌, ℕ, ◌≤◌, ◌↔◌}
 use Rattle.std.proofs.Common.{lit≤, subst, sym}
-use Rattle.expressions.specs.Degree.{degree_of, entry_degree}
-use Rattle.expressions.specs.ExtDegree.{ext_degree_of, ext_entry_degree}
-use Rattle.expressions.specs.ExtTree.{ExtTree, variable}
-use Rattle.expressions.specs.Tree.{Tree, leaf}
-use Rattle.expressions.specs.declared.layout.AirLayout.{AirLayout}
-use Rattle.expressions.specs.declared.base_expression.BaseLeaf.TheVariants.{Variable}
-use Rattle.expressions.specs.declared.variable.BaseEntry.{BaseEntry}
-use Rattle.expressions.specs.declared.variable.BaseEntry.TheVariants.{Preprocessed, Main, Public}
-use Rattle.expressions.specs.declared.variable.ExtEntry.{ExtEntry}
-use Rattle.expressions.specs.declared.variable.ExtEntry.TheVariants.{Permutation, Challenge, PermutationValue}
-use Rattle.expressions.specs.declared.variable.SymbolicVariable.{SymbolicVariable}
-use Rattle.expressions.specs.declared.variable.SymbolicVariableExt.{SymbolicVariableExt}
+use Rattle.air_expressions.specs.Degree.{degree_of, entry_degree}
+use Rattle.air_expressions.specs.ExtDegree.{ext_degree_of, ext_entry_degree}
+use Rattle.air_expressions.specs.ExtTree.{ExtTree, variable}
+use Rattle.air_expressions.specs.Tree.{Tree, leaf}
+use Rattle.air_expressions.specs.declared.layout.AirLayout.{AirLayout}
+use Rattle.air_expressions.specs.declared.base_expression.BaseLeaf.TheVariants.{Variable}
+use Rattle.air_expressions.specs.declared.variable.BaseEntry.{BaseEntry}
+use Rattle.air_expressions.specs.declared.variable.BaseEntry.TheVariants.{Preprocessed, Main, Public}
+use Rattle.air_expressions.specs.declared.variable.ExtEntry.{ExtEntry}
+use Rattle.air_expressions.specs.declared.variable.ExtEntry.TheVariants.{Permutation, Challenge, PermutationValue}
+use Rattle.air_expressions.specs.declared.variable.SymbolicVariable.{SymbolicVariable}
+use Rattle.air_expressions.specs.declared.variable.SymbolicVariableExt.{SymbolicVariableExt}
 
 -- an entry has degree at most 1
 pub entry_degree-le : (entry : BaseEntry) → entry_degree entry ≤ 1

@@ -1,10 +1,10 @@
 -- What a builder that records constraints holds.
 use Rattle.std.specs.Prelude.{◌≡◌, ℕ, ◌+◌, List, [], ◌∷◌, ◌++◌, length}
-use Rattle.expressions.specs.Window.{ExtWindow, Window}
-use Rattle.expressions.specs.declared.layout.AirLayout.{AirLayout}
+use Rattle.air_expressions.specs.Window.{ExtWindow, Window}
+use Rattle.air_expressions.specs.declared.layout.AirLayout.{AirLayout}
 use Rattle.air.specs.declared.recording.builder.SymbolicAirBuilder.{SymbolicAirBuilder}
-use Rattle.expressions.specs.declared.base_expression.SymbolicExpression.{SymbolicExpression}
-use Rattle.expressions.specs.declared.ext_expression.SymbolicExpressionExt.{SymbolicExpressionExt}
+use Rattle.air_expressions.specs.declared.base_expression.SymbolicExpression.{SymbolicExpression}
+use Rattle.air_expressions.specs.declared.ext_expression.SymbolicExpressionExt.{SymbolicExpressionExt}
 
 -- The layout, the assertions over the field and over the extension, each in order, and the
 -- positions of both in the one order of all assertions.

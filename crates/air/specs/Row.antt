@@ -2,12 +2,12 @@
 use Rattle.std.specs.Prelude.{◌≡◌, ◌<◌, ℕ, ◌+◌, ◌==◌, not, ◌⊎◌, length, Option, None, Some, Result, Ok, Err}
 use Rattle.std.specs.Option.{option_copied}
 use Rattle.matrix.specs.Matrix.{Matrix, height}
-use Rattle.expressions.specs.Layout.{width_of_option}
-use Rattle.expressions.specs.Window.{ExtWindow, Window, ext_window_at}
+use Rattle.air_expressions.specs.Layout.{width_of_option}
+use Rattle.air_expressions.specs.Window.{ExtWindow, Window, ext_window_at}
 use Rattle.air.specs.declared.debug.builder.DebugConstraintBuilder.{DebugConstraintBuilder}
 use Rattle.air.specs.declared.debug.inputs.RowInputs.{RowInputs}
-use Rattle.expressions.specs.declared.error.AirError.{AirError}
-use Rattle.expressions.specs.declared.layout.AirLayout.{AirLayout}
+use Rattle.air_expressions.specs.declared.error.AirError.{AirError}
+use Rattle.air_expressions.specs.declared.layout.AirLayout.{AirLayout}
 
 -- a matrix that belongs to a trace of height h: it has that height, or width 0
 abbrev pub HeightFits : {T : Type 0} → ℕ → Matrix T → Type 0

@@ -2,9 +2,9 @@
 use Rattle.std.specs.Prelude.{◌≡◌, ℕ, List, Option}
 use Rattle.std.specs.Option.{ForSome, option_copied}
 use Rattle.matrix.specs.Matrix.{Matrix, height}
-use Rattle.expressions.specs.Layout.{layout_of_traces}
-use Rattle.expressions.specs.Window.{Window, window_at}
-use Rattle.expressions.specs.declared.layout.AirLayout.{AirLayout}
+use Rattle.air_expressions.specs.Layout.{layout_of_traces}
+use Rattle.air_expressions.specs.Window.{Window, window_at}
+use Rattle.air_expressions.specs.declared.layout.AirLayout.{AirLayout}
 use Rattle.air.specs.declared.traces.Traces.{Traces}
 
 -- what contracts see of the traces of an AIR: its main trace, its preprocessed trace, if there is

@@ -3,7 +3,7 @@ ghost use Rattle.std.specs.Prelude.{◌≡◌, ◌<◌, ◌≤◌, ◌⊎◌, �
 ghost use Rattle.std.specs.List.{AllZip};
 ghost use Rattle.air.specs.Cell.{IsCell, IsCellRefusal, IsCellsRefusal, IsNarrow};
 
-use expressions::{AirBuilder, AirError, LayoutPart};
+use air_expressions::{AirBuilder, AirError, LayoutPart};
 use matrix::WindowAccess;
 use std::alloc::Global;
 

@@ -1,5 +1,5 @@
 use crate::cases::holds;
-use expressions::{
+use air_expressions::{
     AirError, BaseEntry, BaseLeaf, Expression, SymbolicExpression, SymbolicVariable,
 };
 use field::{F7, Field};

@@ -1,5 +1,5 @@
 use crate::cases::holds;
-use expressions::{AirError, LayoutPart};
+use air_expressions::{AirError, LayoutPart};
 use std::alloc::{AllocError, Global};
 use std::fmt::Write;
 use std::process::Abort;

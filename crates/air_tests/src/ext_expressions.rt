@@ -1,6 +1,6 @@
 use crate::base_expressions::mixed;
 use crate::cases::holds;
-use expressions::{
+use air_expressions::{
     AirError, BaseLeaf, Expression, ExtEntry, ExtLeaf, SymbolicExpression, SymbolicExpressionExt,
     SymbolicVariableExt,
 };

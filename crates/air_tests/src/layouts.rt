@@ -1,7 +1,7 @@
 use crate::cases::holds;
 use crate::errors::{mismatch, prints};
 use crate::traces::trace_of;
-use expressions::{
+use air_expressions::{
     AirError, AirLayout, BaseAir, BaseEntry, BaseLeaf, LayoutPart, SymbolicExpression,
     SymbolicVariable,
 };

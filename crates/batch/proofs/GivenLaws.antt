@@ -10,9 +10,9 @@ use Rattle.std.specs.Map.{lookup}
 use Rattle.std.specs.declared.alloc.Global.{Global}
 use Rattle.std.specs.declared.vec.Vec.{Vec}
 use Rattle.indexmap.specs.IndexMap.{insert_entry}
-use Rattle.lists.proofs.Images.{images_more, same_length}
-use Rattle.lists.proofs.Items.{take_item}
-use Rattle.lists.proofs.Zips.{zip_push}
+use Rattle.list_laws.proofs.Images.{images_more, same_length}
+use Rattle.list_laws.proofs.Items.{take_item}
+use Rattle.list_laws.proofs.Zips.{zip_push}
 use Rattle.lookup_model.proofs.Names.{same_name-Decides}
 use Rattle.lookup_model.specs.LookupDegree.{greatest}
 use Rattle.lookup_model.specs.Names.{same_name}

@@ -1,8 +1,8 @@
 -- The greatest of some numbers.
 use Rattle.std.proofs.Common.{◌≡◌, ◌≤◌, ◌<◌, ◌+◌, ◌++◌, ℕ, List, [], ◌∷◌, get_or, length, map, max, take, ap, ◌∙◌, arith}
 use Rattle.std.specs.List.{AllByRecursion, flat_map}
-use Rattle.lists.proofs.Images.{images_more}
-use Rattle.lists.proofs.Parts.{flat_next}
+use Rattle.list_laws.proofs.Images.{images_more}
+use Rattle.list_laws.proofs.Parts.{flat_next}
 use Rattle.lookup_model.specs.LookupDegree.{greatest}
 
 -- it is the least number that none exceeds

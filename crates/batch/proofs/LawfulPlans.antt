@@ -2,7 +2,7 @@
 use Rattle.std.proofs.Common.{◌≡◌, ◌↔◌, ◌<◌, ◌≤◌, ◌++◌, ◌∷◌, ℕ, List, [], All, get_or, length, refl, sym, ap, subst, arith}
 use Rattle.std.proofs.lemmas.List.Elements.{All-from_recursion}
 use Rattle.std.specs.List.{AllByRecursion, AllPairs, flat_map, zip}
-use Rattle.lists.proofs.Each.{all_of_map, all_parts, all_weaker}
+use Rattle.list_laws.proofs.Each.{all_of_map, all_parts, all_weaker}
 use Rattle.lookup_model.specs.Batches.Ids.{AreLawfulIds, HaveOneWidth, ShareBus, batch_lookups_with_ids}
 use Rattle.lookup_model.specs.Batches.Instances.{Instance}
 use Rattle.lookup_model.specs.LookupDegree.{greatest}

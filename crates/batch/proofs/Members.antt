@@ -4,8 +4,8 @@ use Rattle.std.proofs.lemmas.Bool.{cases_order}
 use Rattle.std.proofs.lemmas.List.{get_or-map, get_or_default, length-map}
 use Rattle.std.proofs.lemmas.List.Elements.{Contains-append_left, Contains-append_right}
 use Rattle.std.specs.List.{AllByRecursion, AllPairs, AllZip, Contains, cons_option, filter, filter_map, flat_map}
-use Rattle.lists.proofs.Items.{item_at}
-use Rattle.lists.proofs.Parts.{flat_split}
+use Rattle.list_laws.proofs.Items.{item_at}
+use Rattle.list_laws.proofs.Parts.{flat_split}
 
 module _ {A : Type 0} where
   -- of a relation that holds of each item and each later one: two items are one, or it holds one way

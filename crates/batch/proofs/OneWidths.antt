@@ -2,8 +2,8 @@
 use Rattle.std.proofs.Common.{◌≡◌, ◌∷◌, ℕ, true, inl, inr, List, Option, None, Some, All, get_or, length, map, refl, sym, ap, subst, ◌∙◌}
 use Rattle.std.proofs.lemmas.List.Elements.{All-from_recursion, Contains-get_or, recursion_from_All}
 use Rattle.std.specs.List.{AllByRecursion, filter_map, flat_map, zip}
-use Rattle.expressions.specs.declared.base_expression.SymbolicExpression.{SymbolicExpression}
-use Rattle.lists.proofs.Each.{All-of_map, all_here, all_joined, all_of_map, all_parts, all_weaker}
+use Rattle.air_expressions.specs.declared.base_expression.SymbolicExpression.{SymbolicExpression}
+use Rattle.list_laws.proofs.Each.{All-of_map, all_here, all_joined, all_of_map, all_parts, all_weaker}
 use Rattle.lookup_model.proofs.Counting.DistinctLists.{all_held}
 use Rattle.lookup_model.proofs.Lookups.Regrouping.{Holds, first_seen_holds}
 use Rattle.lookup_model.proofs.Names.{same_name-Decides}

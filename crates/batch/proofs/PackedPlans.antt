@@ -9,13 +9,13 @@ use Rattle.std.proofs.lemmas.Slice.Zip.{get_or-zip, length-zip}
 use Rattle.std.specs.List.{AllByRecursion, AllZip, filter, flat_map, zip}
 use Rattle.std.specs.List.Sorted.{IsPermutation}
 use Rattle.std.specs.Option.{is_some}
-use Rattle.lists.proofs.Each.{all_images, all_of_map, all_parts, all_weaker, each_of}
-use Rattle.lists.proofs.Images.{filter_images, map-map, map_same, same_length}
-use Rattle.lists.proofs.Items.{same_front, same_back}
-use Rattle.lists.proofs.Parts.{flat_same, map-flat_map}
-use Rattle.lists.proofs.Zips.{AllZip-same_parts, AllZip-weaker, zip-map_left, zip_mapped}
+use Rattle.list_laws.proofs.Each.{all_images, all_of_map, all_parts, all_weaker, each_of}
+use Rattle.list_laws.proofs.Images.{filter_images, map-map, map_same, same_length}
+use Rattle.list_laws.proofs.Items.{same_front, same_back}
+use Rattle.list_laws.proofs.Parts.{flat_same, map-flat_map}
+use Rattle.list_laws.proofs.Zips.{AllZip-same_parts, AllZip-weaker, zip-map_left, zip_mapped}
 use Rattle.field.specs.Ring.{Ring}
-use Rattle.expressions.specs.Window.{Window}
+use Rattle.air_expressions.specs.Window.{Window}
 use Rattle.lookup_model.specs.Batches.Instances.{Instance}
 use Rattle.lookup_model.specs.Batches.Messages.{HasLawfulFlags, id_of}
 use Rattle.lookup_model.specs.LookupDegree.{greatest}

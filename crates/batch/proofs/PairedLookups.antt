@@ -7,7 +7,7 @@ use Rattle.std.proofs.lemmas.Map.Views.{Contains-from_lookup}
 use Rattle.std.proofs.lemmas.Slice.Zip.{get_or-zip, length-zip}
 use Rattle.std.specs.List.{AllByRecursion, AllPairs, AllZip, Contains, filter, flat_map, zip}
 use Rattle.std.specs.Map.{lookup}
-use Rattle.lists.proofs.Each.{All-parts}
+use Rattle.list_laws.proofs.Each.{All-parts}
 use Rattle.lookup_model.specs.Outline.{fields_of}
 use Rattle.lookup.specs.Packing.{is_additive}
 use Rattle.checker_batches.proofs.Members.{in_image, lookup_found}

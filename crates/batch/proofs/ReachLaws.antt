@@ -1,7 +1,7 @@
 -- Variables within a layout, expression by expression.
 use Rattle.std.proofs.Common.{◌≡◌, ◌↔◌, ◌+◌, ◌<◌, ℕ, Some, List, All, get_or, length, take, subst, sym}
 use Rattle.std.proofs.lemmas.List.Elements.{All-pop, All-push}
-use Rattle.lists.proofs.Items.{take_item}
+use Rattle.list_laws.proofs.Items.{take_item}
 
 -- what holds of the first items, and of one more
 pub all_more : {A : Type 0} (P : A → Type 0) (xs : List A) (i : ℕ) (x : A) → i < length xs → x ≡ get_or xs i x → All P (take (i + 1) xs) ↔ (All P (take i xs) × P x)

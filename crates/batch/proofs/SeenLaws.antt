@@ -10,10 +10,10 @@ use Rattle.std.specs.List.{HoldsAt, flat_map, zip}
 use Rattle.std.specs.Map.{lookup}
 use Rattle.std.specs.declared.alloc.Global.{Global}
 use Rattle.std.specs.declared.vec.Vec.{Vec}
-use Rattle.lists.proofs.Images.{mapped_at}
-use Rattle.lists.proofs.Items.{take_item}
-use Rattle.lists.proofs.Parts.{flat_next, flat_split}
-use Rattle.lists.proofs.Zips.{zip_at}
+use Rattle.list_laws.proofs.Images.{mapped_at}
+use Rattle.list_laws.proofs.Items.{take_item}
+use Rattle.list_laws.proofs.Parts.{flat_next, flat_split}
+use Rattle.list_laws.proofs.Zips.{zip_at}
 use Rattle.lookup_model.specs.Names.{same_name}
 use Rattle.lookup_model.specs.declared.types.Lookup.{Lookup}
 use Rattle.lookup.specs.Lookups.{lookups_of}

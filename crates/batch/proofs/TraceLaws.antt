@@ -6,10 +6,10 @@ use Rattle.std.proofs.lemmas.Slice.Zip.{get_or-zip, length-zip}
 use Rattle.std.specs.List.{AllByRecursion, slice_get, zip}
 use Rattle.std.specs.declared.alloc.Global.{Global}
 use Rattle.std.specs.declared.vec.Vec.{Vec}
-use Rattle.lists.proofs.Each.{all_here, all_of_map, all_parts}
-use Rattle.lists.proofs.Images.{images_more, mapped_at}
-use Rattle.lists.proofs.Items.{item_there}
-use Rattle.lists.proofs.Zips.{pair_at, zip_at}
+use Rattle.list_laws.proofs.Each.{all_here, all_of_map, all_parts}
+use Rattle.list_laws.proofs.Images.{images_more, mapped_at}
+use Rattle.list_laws.proofs.Items.{item_there}
+use Rattle.list_laws.proofs.Zips.{pair_at, zip_at}
 use Rattle.matrix.specs.Matrix.{Matrix}
 use Rattle.lookup_model.specs.Batches.Ids.{batch_lookups_with_ids}
 use Rattle.lookup_model.specs.Batches.Instances.{Instance, InstancesFit, IsFitting, instance_of, instances_of}

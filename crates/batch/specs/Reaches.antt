@@ -1,6 +1,6 @@
 -- How far the variables of lookups reach, and the layouts that they stay within.
 use Rattle.std.specs.Prelude.{◌<◌, ◌↔◌, ℕ, All, IfSome, IsTrue, List, Option}
-use Rattle.expressions.specs.declared.layout.AirLayout.{AirLayout}
+use Rattle.air_expressions.specs.declared.layout.AirLayout.{AirLayout}
 use Rattle.lookup_model.specs.Records.{IsWithin}
 use Rattle.lookup_model.specs.declared.types.Lookup.{Lookup}
 use Rattle.batch.specs.declared.reach.Reach.{Reach}

@@ -2,9 +2,9 @@
 ghost use Rattle.std.specs.Prelude.{◌<◌, ◌≤◌, ◌↔◌, ℕ, All, IfOk, IsTrue};
 ghost use Rattle.std.specs.List.{AllZip};
 ghost use Rattle.batch.specs.Reaches.{IsBelow, IsReachOf, StaysWithin};
-ghost use Rattle.expressions.specs.Layout.{EntryFits, Fits, LeafFits};
-ghost use Rattle.expressions.specs.Tree.{tree_of};
-ghost use Rattle.expressions.specs.declared.layout.AirLayout.{AirLayout};
+ghost use Rattle.air_expressions.specs.Layout.{EntryFits, Fits, LeafFits};
+ghost use Rattle.air_expressions.specs.Tree.{tree_of};
+ghost use Rattle.air_expressions.specs.declared.layout.AirLayout.{AirLayout};
 ghost use Rattle.lookup.specs.Lookups.{lookups_of};
 ghost use Rattle.lookup_model.specs.Records.{AllFit, IsWithin};
 

@@ -1,6 +1,6 @@
 //! The debug check.
 ghost use Rattle.std.specs.Prelude.{◌↔◌, [], IsTrue, None};
-ghost use Rattle.expressions.specs.Layout.{layout_of_traces};
+ghost use Rattle.air_expressions.specs.Layout.{layout_of_traces};
 ghost use Rattle.lookup_model.specs.Records.{LookupsFit};
 
 use crate::debug_shapes::{lookups_of, width_of};

@@ -1,6 +1,6 @@
 //! Generation of the same traces without a plan.
 ghost use Rattle.std.specs.Prelude.{◌↔◌, ◌*◌, ◌≤◌, [], IsTrue, None, length};
-ghost use Rattle.expressions.specs.Layout.{layout_of_traces};
+ghost use Rattle.air_expressions.specs.Layout.{layout_of_traces};
 ghost use Rattle.lookup_model.specs.Records.{LookupsFit};
 
 use crate::airs::{Side, Traces, challenges, lookups_of};

@@ -15,8 +15,8 @@ mod plans;
 mod shapes;
 
 use bench_shapes::{REFUSED, generate};
+use field_goldilocks::{Goldilocks, Goldilocks2};
 use field_monty::{BabyBear, BabyBear4};
-use goldilocks::{Goldilocks, Goldilocks2};
 use std::alloc::Global;
 
 /// Sets each number `x` to `x * a + b`, `rounds` times.

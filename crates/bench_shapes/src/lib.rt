@@ -1,9 +1,9 @@
 //! The shapes that are measured, and checksums of their auxiliary traces. `bench` makes C functions of
-//! this, for the comparisons in `bench/`, and `generation_tests` tests it.
+//! this, for the comparisons in `bench/`, and `lookup_generation_tests` tests it.
 #![tactic(auto)]
 
 ghost use Rattle.std.specs.Prelude.{◌↔◌, ◌*◌, ◌≤◌, [], IsTrue, None, length};
-ghost use Rattle.expressions.specs.Layout.{layout_of_traces};
+ghost use Rattle.air_expressions.specs.Layout.{layout_of_traces};
 ghost use Rattle.lookup_model.specs.Records.{LookupsFit};
 
 mod shapes;

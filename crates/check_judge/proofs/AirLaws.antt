@@ -5,7 +5,7 @@ use Rattle.lookup_debug.specs.Contributions.{Traced}
 use Rattle.language_meaning.specs.Shapes.{Shape}
 use Rattle.language_meaning.specs.Tables.{TablesOf}
 use Rattle.language_meaning.specs.Lookups.{Said}
-use Rattle.lookup_text.specs.Batches.{Air, Section}
+use Rattle.language.specs.Batches.{Air, Section}
 use Rattle.check_judge.specs.Said.{AreSaid, IsSaid, SayOver, SaysOver}
 
 -- the images of what is left of a list: that of its next item, and of what is left then

@@ -5,8 +5,8 @@ use Rattle.std.proofs.Math.Pow.{pow_mono}
 use Rattle.std.proofs.lemmas.Bool.{cases_lt}
 use Rattle.std.proofs.lemmas.Nat.{pow_pos}
 use Rattle.check_judge.specs.Bits.{MeetsTarget, challenges_of}
-use Rattle.lookup_words.specs.declared.request.FieldName.{FieldName}
-use Rattle.lookup_words.specs.declared.request.FieldName.TheVariants.{F7, BabyBear4, KoalaBear4, Goldilocks2}
+use Rattle.check_words.specs.declared.request.FieldName.{FieldName}
+use Rattle.check_words.specs.declared.request.FieldName.TheVariants.{F7, BabyBear4, KoalaBear4, Goldilocks2}
 
 -- as many bits are left as are wanted exactly if they are at most the greatest number that is left
 pub enough : (size bad wanted bits : ℕ) → bad * 2 ^ bits ≤ size → size < bad * 2 ^ (bits + 1) → (wanted ≤ bits) ↔ (bad * 2 ^ wanted ≤ size)

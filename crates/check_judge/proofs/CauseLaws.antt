@@ -13,9 +13,9 @@ use Rattle.language_meaning.specs.declared.name_fault.NameFault.{NameFault}
 use Rattle.language_meaning.specs.declared.name_fault.NameFault.TheVariants as faults
 use Rattle.language_meaning.specs.declared.name_fault.NameRefusal.{NameRefusal}
 use Rattle.language_meaning.specs.Traces.{HasWholeRows}
-use Rattle.lookup_text.specs.Batches.{Air, Section}
-use Rattle.lookup_text.specs.Tables.{table_of}
-use Rattle.lookup_text.specs.declared.table.Table.{Table}
+use Rattle.language.specs.Batches.{Air, Section}
+use Rattle.language.specs.Tables.{table_of}
+use Rattle.language.specs.declared.table.Table.{Table}
 use Rattle.check_judge.specs.Causes.{AreItemsRefused, IsAirRefusal, IsFirstAirRefusal, IsFirstNameRefusal, IsFirstRefused}
 use Rattle.check_judge.specs.Refusals.{of_batch, of_name}
 use Rattle.check_judge.specs.Said.{IsSaid, IsWhole, SaysOver}

@@ -4,8 +4,8 @@ use Rattle.std.proofs.lemmas.List.{append-nil, append_assoc, length-map, map-app
 use Rattle.std.proofs.lemmas.List.Sums.{sum_by-append, sum_by-cons, sum_by_push}
 use Rattle.std.proofs.lemmas.Option.{slice_get-get_or, slice_get_past}
 use Rattle.std.specs.List.{AllByRecursion, flat_map, slice_get, sum_by}
-use Rattle.lists.proofs.Each.{all_front}
-use Rattle.lists.proofs.Images.{map_at}
+use Rattle.list_laws.proofs.Each.{all_front}
+use Rattle.list_laws.proofs.Images.{map_at}
 use Rattle.lookup.specs.Cuts.{part_items}
 
 -- the item behind the first ones

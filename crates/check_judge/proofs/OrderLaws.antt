@@ -5,7 +5,7 @@ use Rattle.std.proofs.lemmas.List.Elements.{filter-append}
 use Rattle.std.specs.List.{filter, flat_map}
 use Rattle.std.specs.Map.{lookup, values_of}
 use Rattle.std.specs.Option.{option_map_or}
-use Rattle.lists.proofs.Images.{images_more}
+use Rattle.list_laws.proofs.Images.{images_more}
 use Rattle.indexmap.specs.IndexMap.{insert_entry}
 use Rattle.lookup_model.specs.Names.{same_name}
 use Rattle.lookup_model.specs.Outline.{Outline}

@@ -4,8 +4,8 @@ use Rattle.std.proofs.lemmas.Grind.{flat_map-append}
 use Rattle.std.proofs.lemmas.List.{append-nil, length-append, map-append}
 use Rattle.std.proofs.lemmas.List.Sums.{sum_by-cons}
 use Rattle.std.specs.List.{AllByRecursion, AllZip, flat_map, sum_by}
-use Rattle.lists.proofs.Each.{all_both, all_images, all_joined, all_kept, each_of}
-use Rattle.lists.proofs.Images.{map-map}
+use Rattle.list_laws.proofs.Each.{all_both, all_images, all_joined, all_kept, each_of}
+use Rattle.list_laws.proofs.Images.{map-map}
 use Rattle.check_judge.proofs.CutLaws.{held}
 use Rattle.lookup.specs.Cuts.{IsCut, part_items}
 use Rattle.lookup_model.specs.Names.{is_named}

@@ -12,11 +12,11 @@ use Rattle.lookup_model.specs.declared.types.Lookup.{Lookup}
 use Rattle.check_judge.specs.Found.{sized_of, sized_over}
 use Rattle.check_judge.specs.Said.{AreLookupsOf, AreSaid, SayOver, names_over}
 use Rattle.check_judge.specs.internal.Sharing.{AllHaveTuples, HaveTuples}
-use Rattle.lookup_text.specs.declared.token.Span.{Span}
-use Rattle.lookup_text.specs.Batches.{Air, Section}
-use Rattle.lookup_text.specs.Items.{Item, Part, Placed}
-use Rattle.lookup_text.specs.Items as items
-use Rattle.lookup_text.specs.Messages.{Message}
+use Rattle.language.specs.declared.token.Span.{Span}
+use Rattle.language.specs.Batches.{Air, Section}
+use Rattle.language.specs.Items.{Item, Part, Placed}
+use Rattle.language.specs.Items as items
+use Rattle.language.specs.Messages.{Message}
 use Rattle.language_meaning.specs.declared.name_fault.NameRefusal.{NameRefusal}
 use Rattle.language_meaning.specs.Faults.{◌>>=◌}
 use Rattle.language_meaning.specs.Lookups.{Addition, Column, Said, SentPart, addition, addition_at, column_alone, column_together, defined_by, defines, message_on, names_after, new_name, nothing, part_on, parts_on, publics_after, publishes, said_after, said_by_items, sends}

@@ -1,8 +1,8 @@
 -- How many challenges there are, and whether enough bits are left.
 use Rattle.std.specs.Prelude.{◌≡◌, ◌⊎◌, ◌+◌, ◌*◌, ◌^◌, ◌≤◌, ℕ, zero, suc, Option, Some, None}
 use Rattle.std.specs.Option.{ForSome}
-use Rattle.lookup_words.specs.declared.request.FieldName.{FieldName}
-use Rattle.lookup_words.specs.declared.request.FieldName.TheVariants.{F7, BabyBear4, KoalaBear4, Goldilocks2}
+use Rattle.check_words.specs.declared.request.FieldName.{FieldName}
+use Rattle.check_words.specs.declared.request.FieldName.TheVariants.{F7, BabyBear4, KoalaBear4, Goldilocks2}
 
 -- how many challenges a field has
 abbrev pub challenges_of : FieldName → ℕ

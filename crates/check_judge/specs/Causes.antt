@@ -1,7 +1,7 @@
 -- Why a batch is not judged: the first step that fails.
 use Rattle.std.specs.Prelude.{◌≡◌, ◌≢◌, ◌⊎◌, ◌+◌, ℕ, Bool, List, ◌∷◌, Some, Err, Ok, false, true, length, map, slice_get}
 use Rattle.std.specs.List.{AllZip}
-use Rattle.expressions.specs.Faults.{SplitsAtFault}
+use Rattle.air_expressions.specs.Faults.{SplitsAtFault}
 use Rattle.field.specs.Extension.{Extension}
 use Rattle.field.specs.Ring.{Ring, of_nat}
 use Rattle.lookup_debug.specs.Contributions.{Traced}
@@ -19,7 +19,7 @@ use Rattle.lookup_model.specs.declared.types.Lookup.{Lookup}
 use Rattle.language_meaning.specs.Buses.{distinct_buses}
 use Rattle.language_meaning.specs.Lookups.{Said}
 use Rattle.language_meaning.specs.declared.name_fault.NameRefusal.{NameRefusal}
-use Rattle.lookup_text.specs.Batches.{Air, Section}
+use Rattle.language.specs.Batches.{Air, Section}
 use Rattle.lookup.specs.Fewest.{AnswersDegree}
 use Rattle.lookup.specs.BusWidths.{HaveBusWidths, IsWidthRefusal}
 use Rattle.lookup.specs.Packing.{IsFillRefusal, IsPacking}

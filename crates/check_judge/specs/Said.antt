@@ -12,8 +12,8 @@ use Rattle.lookup_model.specs.declared.types.Lookup.{Lookup}
 use Rattle.language_meaning.specs.Lookups.{Said, said_by_items}
 use Rattle.language_meaning.specs.declared.name_fault.NameRefusal.{NameRefusal}
 use Rattle.language_meaning.specs.Scopes.{NamesInScope}
-use Rattle.lookup_text.specs.Batches.{Air, Section, bus, air}
-use Rattle.lookup_text.specs.Tables.{Numbers}
+use Rattle.language.specs.Batches.{Air, Section, bus, air}
+use Rattle.language.specs.Tables.{Numbers}
 use Rattle.matrix.specs.Matrix.{Matrix}
 
 -- the AIRs among the sections of a text

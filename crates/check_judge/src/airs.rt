@@ -9,18 +9,18 @@ ghost use Rattle.check_judge.specs.Causes.{IsAirRefusal, IsElementRefusal, IsFir
 ghost use Rattle.check_judge.specs.Said.{AreLookupsOf, AreSaid, AreWhole, IsSaid, SayOver, airs_of, trace_in};
 ghost use Rattle.check_judge.specs.Airs.{AreFittingAirs, IsFittingAir, over_traced};
 ghost use Rattle.language_meaning.specs.Lookups.{Said, said_of};
-ghost use Rattle.lookup_text.specs.Batches.{air_of, section_of};
-ghost use Rattle.lookup_text.specs.Tables.{table_of};
+ghost use Rattle.language.specs.Batches.{air_of, section_of};
+ghost use Rattle.language.specs.Tables.{table_of};
 
 use crate::fault::JudgeFault;
 use field::Field;
 use field_words::elements_of;
+use language::{AirText, BatchText, SectionText, Table};
 use language_meaning::{
     AirShape, AirTables, NamedAir, has_whole_rows, lookups_of, lookups_over, matrix_of,
 };
 use lookup::Lookups;
 use lookup::debug_util::fit_fault;
-use lookup_text::{AirText, BatchText, SectionText, Table};
 use matrix::RowMajorMatrix;
 use std::alloc::{AllocError, Global};
 

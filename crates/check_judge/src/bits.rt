@@ -3,7 +3,7 @@ ghost use Rattle.std.specs.Prelude.{◌≡◌, ◌⊎◌, ◌↔◌, ◌+◌, �
 ghost use Rattle.check_judge.specs.Bits.{MeetsTarget, alphas_of, challenges_of};
 
 use crate::fields::challenges;
-use lookup_words::{BitsRequest, FieldName};
+use check_words::{BitsRequest, FieldName};
 
 /// At how few challenges a batch that does not balance is accepted.
 #[derive(Clone, Copy)]

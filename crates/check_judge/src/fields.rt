@@ -2,11 +2,11 @@
 ghost use Rattle.std.specs.Prelude.{◌≡◌};
 ghost use Rattle.check_judge.specs.Bits.{challenges_of};
 
+use check_words::FieldName;
 use field::{F7, PrimeCharacteristicRing};
+use field_goldilocks::Goldilocks;
 use field_monty::{MontyField31, MontyParameters};
-use goldilocks::Goldilocks;
 use lookup::debug_util::SignedField;
-use lookup_words::FieldName;
 use serde::Serialize;
 
 /// A field of the traces of a text: its elements are told as numbers below the characteristic, which fits

@@ -11,7 +11,7 @@ ghost use Rattle.check_judge.specs.Said.{AreSaid, airs_of};
 ghost use Rattle.check_judge.specs.Airs.{AreFittingAirs, over_traced};
 ghost use Rattle.check_judge.specs.internal.Sizes.{sized_lookups_of};
 ghost use Rattle.language_meaning.specs.Buses.{distinct_buses};
-ghost use Rattle.lookup_text.specs.Batches.{section_of};
+ghost use Rattle.language.specs.Batches.{section_of};
 
 use crate::airs::{AirOver, airs_over};
 use crate::fault::JudgeFault;
@@ -20,9 +20,9 @@ use crate::report::Report;
 use crate::sizes::SizedAir;
 use batch::{BatchPlan, BatchTrace};
 use field::{ExtensionField, Field, Over};
+use language::BatchText;
 use language_meaning::{AirTables, check_buses};
 use lookup::debug_util::{BusGroup, LookupDebugInstance, SignedField, bus_table};
-use lookup_text::BatchText;
 use std::alloc::{AllocError, Global};
 
 /// The AIRs of a batch over its tables, and their plan.

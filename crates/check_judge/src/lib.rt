@@ -1,7 +1,7 @@
 //! Batches that are written as text, judged: whether all messages balance, how heavy and how sound
 //! the batch is, and which tuples are sent too often.
 //!
-//! `judge` takes a batch of `lookup_text` and the tables of its AIRs over one field, and calls the
+//! `judge` takes a batch of `language` and the tables of its AIRs over one field, and calls the
 //! lookup library over the lookups and traces that they say. `judge_plan` needs no tables, but how
 //! large they are.
 #![tactic(auto)]

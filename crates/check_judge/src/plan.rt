@@ -14,7 +14,7 @@ ghost use Rattle.check_judge.specs.internal.Sharing.{AllHaveTuples};
 ghost use Rattle.lookup_model.specs.declared.types.Lookup.{Lookup};
 ghost use Rattle.language_meaning.specs.Buses.{distinct_buses};
 ghost use Rattle.language_meaning.specs.Lookups.{Said};
-ghost use Rattle.lookup_text.specs.Batches.{section_of};
+ghost use Rattle.language.specs.Batches.{section_of};
 
 use crate::airs::{airs_named, sets_over};
 use crate::fault::JudgeFault;
@@ -22,9 +22,9 @@ use crate::report::PlanReport;
 use crate::sizes::{SizedAir, height_sum, reports_of};
 use batch::BatchPlan;
 use field::{ExtensionField, Field, Over};
+use language::BatchText;
 use language_meaning::{AirShape, check_buses};
 use lookup::Lookups;
-use lookup_text::BatchText;
 use std::alloc::{AllocError, Global};
 
 /// What is found of a batch before any trace is seen, over traces of these shapes, one for each AIR

@@ -2,7 +2,7 @@
 use crate::fields::challenge_field;
 use crate::page::{Page, head, number_cell, word_cell};
 use check_judge::Deceiving;
-use lookup_words::{BitsRequest, FieldName};
+use check_words::{BitsRequest, FieldName};
 use std::alloc::AllocError;
 
 /// All fields, in the order in which they are told.

@@ -3,8 +3,8 @@ use crate::page::{Page, shown_cell};
 use crate::told::{Told, push_lookup};
 use crate::words::{Lines, is_lookup};
 use check_judge::AirReport;
+use language::AirText;
 use language_meaning::bytes_of;
-use lookup_text::AirText;
 use std::alloc::{AllocError, Global};
 
 /// Appends a line for each packed column, in the order in which packing leaves them. Where there is

@@ -1,5 +1,5 @@
 //! The fields, as they are told.
-use lookup_words::FieldName;
+use check_words::FieldName;
 
 /// The name of the field that challenges are taken from.
 pub(crate) fn challenge_field(field: FieldName) -> &'static str {

@@ -3,8 +3,8 @@ use crate::given::Given;
 use crate::names::name_at;
 use crate::near::near_name;
 use crate::words::bus_named;
+use language::{BatchText, Fault, Kind, TextFault, Why, place_of, tokens};
 use language_meaning::{NameRefusal, NameWhy};
-use lookup_text::{BatchText, Fault, Kind, TextFault, Why, place_of, tokens};
 use std::alloc::{AllocError, Global};
 
 /// What helps to mend a fault.

@@ -4,8 +4,8 @@ ghost use Rattle.std.specs.Prelude.{◌≤◌, length};
 use crate::hint::Hint;
 use crate::names::is_name;
 use crate::page::Page;
+use language::{Why, place_of};
 use language_meaning::NameWhy;
-use lookup_text::{Why, place_of};
 use std::alloc::AllocError;
 
 /// The longest line that is shown.

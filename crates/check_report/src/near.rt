@@ -2,8 +2,8 @@
 use crate::given::Given;
 use crate::names::name_at;
 use crate::words::air_at;
+use language::{BatchText, ItemText, SectionText};
 use language_meaning::{NameWhy, TableFault, bytes_of, read_shapes};
-use lookup_text::{BatchText, ItemText, SectionText};
 use std::alloc::{AllocError, Global};
 
 /// The longest name that is compared.

@@ -11,11 +11,11 @@ use crate::page::Page;
 use crate::words::{air_at, lookup_at, trace_file};
 use batch::BatchError;
 use check_judge::JudgeFault;
+use check_words::FieldName;
+use language::{BatchText, Fault, Span, place_of};
 use language_meaning::{ElementWhy, TableRefusal, TableWhy, bytes_of, content_of, path_beside};
 use lookup::LookupError;
 use lookup::debug_util::FitFault;
-use lookup_text::{BatchText, Fault, Span, place_of};
-use lookup_words::FieldName;
 use std::alloc::{AllocError, AllocFailed, Global};
 
 /// A refusal of the program.

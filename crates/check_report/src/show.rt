@@ -3,8 +3,8 @@ use crate::names::is_name;
 use crate::page::{Page, head, number_cell, numbers_cell, shown_cell, word_cell};
 use crate::words::{Lines, public_name};
 use check_judge::airs_of;
+use language::{AirText, BatchText};
 use language_meaning::{AirShape, NamedAir, NamedLookup, NamedPart, Value, bytes_of};
-use lookup_text::{AirText, BatchText};
 use std::alloc::AllocError;
 
 /// What the columns and public values of an AIR are called.

@@ -1,10 +1,10 @@
 //! What the sections of a report are told with.
 use crate::page::Page;
 use crate::words::first_word;
+use check_words::FieldName;
+use language::{AirText, BatchText, ItemText};
 use language_meaning::bytes_of;
 use lookup::debug_util::GroupName;
-use lookup_text::{AirText, BatchText, ItemText};
-use lookup_words::FieldName;
 use std::alloc::AllocError;
 
 /// What the sections of a report are told with.

@@ -3,9 +3,9 @@ use crate::page::{Page, characters};
 use crate::told::{Told, group_cell, push_lookup};
 use crate::words::{bus_named, lookup_at, trace_file};
 use check_judge::TableField;
+use language::{Span, place_of};
 use language_meaning::bytes_of;
 use lookup::debug_util::{BusGroup, GroupName, Location, SignedField, UnbalancedTuple};
-use lookup_text::{Span, place_of};
 use std::alloc::AllocError;
 
 /// Appends the first unbalanced tuples of each group, at most as many as are told.

@@ -1,6 +1,6 @@
 //! What a text says of the AIRs and buses of a report, found again by their numbers.
+use language::{AirText, BatchText, BusText, ItemText, PlacedItem, SectionText, Span, Verb};
 use language_meaning::bytes_of;
-use lookup_text::{AirText, BatchText, BusText, ItemText, PlacedItem, SectionText, Span, Verb};
 
 /// The lines of a text, found one after the other.
 #[derive(Drop)]

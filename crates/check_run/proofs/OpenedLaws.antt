@@ -11,8 +11,8 @@ use Rattle.language_meaning.specs.Files.{File}
 use Rattle.lookup_model.specs.Batches.Grid.{IsNumberOf, grid}
 use Rattle.lookup_model.specs.Batches.Witnesses.{HasOneOfEach, IsAccepted, results_of}
 use Rattle.lookup_model.specs.declared.witness.Witness.{Witness}
-use Rattle.lookup_words.specs.declared.request.ChallengeWords.{ChallengeWords}
-use Rattle.witness_text.specs.Lines.{IsTextOf}
+use Rattle.check_words.specs.declared.request.ChallengeWords.{ChallengeWords}
+use Rattle.language_witness.specs.Lines.{IsTextOf}
 use Rattle.check_judge.specs.Found.{IsPlanOf, sized_of}
 use Rattle.check_run.specs.Runs.{IsAcceptance, IsAcceptanceTold, IsReadRun}
 use Rattle.check_judge.specs.declared.airs.AirOver.{AirOver}

@@ -1,7 +1,7 @@
 -- From the refusal of a step to that of a run.
 use Rattle.std.proofs.Common.{◌≡◌, ◌⊎◌, inl, inr, ℕ, List, Result, Ok}
 use Rattle.language_meaning.specs.declared.table_fault.TableRefusal.{TableRefusal}
-use Rattle.lookup_text.specs.Batches.{Section, batch_at}
+use Rattle.language.specs.Batches.{Section, batch_at}
 use Rattle.check_run.specs.RunRefusals.{IsReadingRefused}
 use Rattle.check_judge.specs.declared.fault.JudgeFault.{JudgeFault}
 use Rattle.check_judge.specs.declared.fault.JudgeFault.TheVariants as fault

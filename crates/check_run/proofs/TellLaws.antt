@@ -4,8 +4,8 @@ use Rattle.check_run.specs.internal.Told.{TellsWords}
 use Rattle.check_run.specs.declared.answer.Answer.{Answer}
 use Rattle.check_report.specs.declared.refusal.RunRefusal.{RunRefusal}
 use Rattle.check_report.specs.declared.refusal.RunRefusal.TheVariants as run_refusal
-use Rattle.lookup_words.specs.declared.refusal.WordsRefusal.{WordsRefusal}
-use Rattle.lookup_words.specs.declared.refusal.WordsRefusal.TheVariants.{Memory, Told, Help}
+use Rattle.check_words.specs.declared.refusal.WordsRefusal.{WordsRefusal}
+use Rattle.check_words.specs.declared.refusal.WordsRefusal.TheVariants.{Memory, Told, Help}
 
 -- what is told of them is help, or why they are refused
 pub told_words : (P : Answer → Type 0) (Q : RunRefusal → Type 0) (words : WordsRefusal) (r : Result Answer RunRefusal) → TellsWords words r

@@ -6,24 +6,24 @@ use Rattle.field_monty.specs.Quartic.{Quartic}
 use Rattle.field.specs.Residue.{Residue}
 use Rattle.field.specs.Ring.{of_nat}
 use Rattle.field_words.specs.Fields.{Fields}
-use Rattle.goldilocks.specs.Quadratic.{Quadratic}
-use Rattle.lookup_text.specs.Batches.{Section, batch_at}
-use Rattle.lookup_text.specs.declared.fault.Fault.{Fault}
+use Rattle.field_goldilocks.specs.Quadratic.{Quadratic}
+use Rattle.language.specs.Batches.{Section, batch_at}
+use Rattle.language.specs.declared.fault.Fault.{Fault}
 use Rattle.language_meaning.specs.Files.{File}
 use Rattle.language_meaning.specs.Shapes.{all_shapes}
 use Rattle.language_meaning.specs.Tables.{all_tables}
 use Rattle.language_meaning.specs.declared.table_fault.TableRefusal.{TableRefusal}
 use Rattle.language_meaning.specs.Lookups.{Said}
-use Rattle.lookup_words.specs.Line.{HasFieldNames, NameList, line_app}
-use Rattle.lookup_words.specs.Words.{IsAsked, IsRefused}
-use Rattle.lookup_words.specs.declared.refusal.WordsRefusal.TheVariants as of_words
-use Rattle.lookup_words.specs.declared.request.Asked.{Asked}
-use Rattle.lookup_words.specs.declared.request.Asked.TheVariants.{Batch, Bits}
-use Rattle.lookup_words.specs.declared.request.ChallengeWords.{ChallengeWords}
-use Rattle.lookup_words.specs.declared.request.FieldName.{FieldName}
-use Rattle.lookup_words.specs.declared.request.FieldName.TheVariants.{F7, BabyBear4, KoalaBear4, Goldilocks2}
-use Rattle.lookup_words.specs.declared.request.Task.{Task}
-use Rattle.lookup_words.specs.declared.request.Task.TheVariants.{Accept, Any, Check, Pack, Plan, Show, Witness}
+use Rattle.check_words.specs.Line.{HasFieldNames, NameList, line_app}
+use Rattle.check_words.specs.Words.{IsAsked, IsRefused}
+use Rattle.check_words.specs.declared.refusal.WordsRefusal.TheVariants as of_words
+use Rattle.check_words.specs.declared.request.Asked.{Asked}
+use Rattle.check_words.specs.declared.request.Asked.TheVariants.{Batch, Bits}
+use Rattle.check_words.specs.declared.request.ChallengeWords.{ChallengeWords}
+use Rattle.check_words.specs.declared.request.FieldName.{FieldName}
+use Rattle.check_words.specs.declared.request.FieldName.TheVariants.{F7, BabyBear4, KoalaBear4, Goldilocks2}
+use Rattle.check_words.specs.declared.request.Task.{Task}
+use Rattle.check_words.specs.declared.request.Task.TheVariants.{Accept, Any, Check, Pack, Plan, Show, Witness}
 use Rattle.batch.specs.Grids.{CountsPlanGrid}
 use Rattle.batch.specs.Runs.{Proves, Run}
 use Rattle.batch.specs.declared.error.BatchError.{BatchError}

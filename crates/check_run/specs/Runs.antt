@@ -8,10 +8,10 @@ use Rattle.field_monty.specs.Quartic.{Quartic}
 use Rattle.field.specs.Residue.{Residue}
 use Rattle.field.specs.Ring.{of_nat}
 use Rattle.field_words.specs.Fields.{Fields}
-use Rattle.goldilocks.specs.Quadratic.{Quadratic}
+use Rattle.field_goldilocks.specs.Quadratic.{Quadratic}
 use Rattle.lookup_debug.specs.Contributions.{Traced}
 use Rattle.lookup_debug.specs.Mismatch.{AllBalance}
-use Rattle.lookup_text.specs.Batches.{Section, batch_at}
+use Rattle.language.specs.Batches.{Section, batch_at}
 use Rattle.language_meaning.specs.Files.{File}
 use Rattle.language_meaning.specs.Shapes.{Shape, all_shapes}
 use Rattle.language_meaning.specs.Tables.{TablesOf, all_tables}
@@ -21,21 +21,21 @@ use Rattle.lookup_model.specs.declared.types.Lookup.{Lookup}
 use Rattle.lookup_model.specs.declared.witness.Witness.{Witness}
 use Rattle.language_meaning.specs.Buses.{distinct_buses}
 use Rattle.language_meaning.specs.Lookups.{Said}
-use Rattle.lookup_words.specs.Line.{HasFieldNames, NameList, line_app}
-use Rattle.lookup_words.specs.Words.{IsAsked, IsRefused}
-use Rattle.lookup_words.specs.declared.refusal.WordsRefusal.TheVariants.{Help}
-use Rattle.lookup_words.specs.declared.request.Asked.{Asked}
-use Rattle.lookup_words.specs.declared.request.Asked.TheVariants.{Batch, Bits}
-use Rattle.lookup_words.specs.declared.request.ChallengeWords.{ChallengeWords}
-use Rattle.lookup_words.specs.declared.request.FieldName.{FieldName}
-use Rattle.lookup_words.specs.declared.request.FieldName.TheVariants.{F7, BabyBear4, KoalaBear4, Goldilocks2}
-use Rattle.lookup_words.specs.declared.request.Task.{Task}
-use Rattle.lookup_words.specs.declared.request.Task.TheVariants.{Accept, Any, Check, Pack, Plan, Show, Witness as OfWitness}
+use Rattle.check_words.specs.Line.{HasFieldNames, NameList, line_app}
+use Rattle.check_words.specs.Words.{IsAsked, IsRefused}
+use Rattle.check_words.specs.declared.refusal.WordsRefusal.TheVariants.{Help}
+use Rattle.check_words.specs.declared.request.Asked.{Asked}
+use Rattle.check_words.specs.declared.request.Asked.TheVariants.{Batch, Bits}
+use Rattle.check_words.specs.declared.request.ChallengeWords.{ChallengeWords}
+use Rattle.check_words.specs.declared.request.FieldName.{FieldName}
+use Rattle.check_words.specs.declared.request.FieldName.TheVariants.{F7, BabyBear4, KoalaBear4, Goldilocks2}
+use Rattle.check_words.specs.declared.request.Task.{Task}
+use Rattle.check_words.specs.declared.request.Task.TheVariants.{Accept, Any, Check, Pack, Plan, Show, Witness as OfWitness}
 use Rattle.batch.specs.Plans.{FitPlan, Plan as PlanOf}
 use Rattle.batch.specs.Runs.{Proves, ProvesSatisfied, Run, run_of}
 use Rattle.batch.specs.Traces.{view_of}
 use Rattle.batch.specs.declared.trace.BatchTrace.{BatchTrace}
-use Rattle.witness_text.specs.Lines.{IsTextOf, witness_lines}
+use Rattle.language_witness.specs.Lines.{IsTextOf, witness_lines}
 use Rattle.check_judge.specs.Bits.{MeetsTarget, alphas_of, challenges_of}
 use Rattle.check_judge.specs.Found.{IsFound, IsPlanFound, IsPlanOf, sized_of, sized_over}
 use Rattle.check_judge.specs.Said.{AreLookupsOf, AreSaid, SayOver, airs_of}

@@ -9,7 +9,7 @@ ghost use Rattle.check_run.specs.Runs.{AnswersOver, IsPlanned, IsShown, IsVerdic
 ghost use Rattle.check_judge.specs.Said.{SayOver, airs_of};
 ghost use Rattle.language_meaning.specs.Buses.{distinct_buses};
 ghost use Rattle.language_meaning.specs.Lookups.{said_of};
-ghost use Rattle.lookup_text.specs.Batches.{section_of};
+ghost use Rattle.language.specs.Batches.{section_of};
 
 use crate::answer::Answer;
 use crate::json::{push_airs_json, push_lookups_json, push_plan_json, push_report_json};
@@ -19,10 +19,10 @@ use check_judge::{JudgeFault, TableField, airs_named, airs_of, judge, judge_plan
 use check_report::{
     Given, Page, RunRefusal, Told, push_airs, push_lookups, push_plan, push_report, push_target,
 };
+use check_words::{FieldName, Task};
 use field_words::{Challenge, Written};
+use language::BatchText;
 use language_meaning::{AirShape, NamedAir, check_buses};
-use lookup_text::BatchText;
-use lookup_words::{FieldName, Task};
 use std::alloc::Global;
 
 /// How many unbalanced tuples of a bus are looked at for those that differ in one value.

@@ -1,11 +1,11 @@
 //! Answers as JSON, one object on one line. Numbers that may be past 2^53 are texts, but for rows and targets.
 use check_judge::{AirReport, Deceiving, PlanReport, Report, TableField, airs_of};
 use check_report::{FIELDS, Page, Told, air_name, lookup_at, magnitude, trace_file};
+use check_words::{BitsRequest, FieldName};
+use language::{BatchText, place_of};
 use language_meaning::bytes_of;
 use lookup::Lookups;
 use lookup::debug_util::{BusGroup, GroupName, Place, UnbalancedTuple};
-use lookup_text::{BatchText, place_of};
-use lookup_words::{BitsRequest, FieldName};
 use serde::Serialize;
 use std::alloc::{AllocError, Global};
 

@@ -9,10 +9,10 @@ use crate::reading::{batch_of, tables_in};
 use batch::BatchPlan;
 use check_judge::{AirOver, PlannedAirs, TableField, planned_airs};
 use check_report::{Given, RunRefusal};
+use check_words::{ChallengeWords, FieldName};
 use field::Field;
 use field_words::{Challenge, Written};
-use lookup_text::BatchText;
-use lookup_words::{ChallengeWords, FieldName};
+use language::BatchText;
 use std::alloc::Global;
 
 /// A batch over its tables, with its plan and a pair of challenges.

@@ -16,12 +16,12 @@ use crate::commands::answer_over;
 use crate::json::push_bits_json;
 use check_judge::Deceiving;
 use check_report::{Given, Page, RunRefusal, push_bits_table, push_target};
+use check_words::{Asked, BatchRequest, BitsRequest, FieldName, WordsRefusal, asked};
 use field::F7;
+use field_goldilocks::{Goldilocks, Goldilocks2};
 use field_monty::{BabyBear, BabyBear4, KoalaBear, KoalaBear4};
 use field_words::Written;
-use goldilocks::{Goldilocks, Goldilocks2};
 use language_meaning::NamedFile;
-use lookup_words::{Asked, BatchRequest, BitsRequest, FieldName, WordsRefusal, asked};
 use std::alloc::Global;
 use std::io::{ErrorKind, Write};
 use std::process::ExitCode;
@@ -38,7 +38,7 @@ pub struct Inputs<'a> {
 }
 
 /// Runs the words of a command line over the bytes of the files that they name; see
-/// `lookup_words::asked`.
+/// `check_words::asked`.
 ///
 /// Writes the answer to `output`. If the run is refused, writes why to `errors`, and nothing to
 /// `output`. If the answer cannot be written, a part of it may be in `output`, and `errors` gets a line

@@ -4,12 +4,12 @@ ghost use Rattle.language_meaning.specs.Files.{named_of};
 ghost use Rattle.language_meaning.specs.Shapes.{all_shapes, shape_of};
 ghost use Rattle.language_meaning.specs.Tables.{all_tables, tables_of};
 ghost use Rattle.language_meaning.specs.declared.table_fault.TableRefusal.{TableRefusal};
-ghost use Rattle.lookup_text.specs.Batches.{batch_at, section_of};
-ghost use Rattle.lookup_text.specs.declared.fault.Fault.{Fault};
+ghost use Rattle.language.specs.Batches.{batch_at, section_of};
+ghost use Rattle.language.specs.declared.fault.Fault.{Fault};
 
 use check_report::{Given, RunRefusal};
+use language::{BatchText, TextFault, read_batch};
 use language_meaning::{AirShape, AirTables, TableFault, read_shapes, read_tables};
-use lookup_text::{BatchText, TextFault, read_batch};
 use std::alloc::Global;
 
 /// The batch in a text.

@@ -3,18 +3,18 @@ ghost use Rattle.std.specs.Prelude.{◌≡◌, ◌⊎◌, ◌↔◌, ◌∷◌, 
 ghost use Rattle.language_meaning.specs.Files.{named_of};
 ghost use Rattle.check_run.specs.RunRefusals.{IsAnyRefused, IsWitnessRefused};
 ghost use Rattle.check_run.specs.Runs.{IsAcceptance, IsAcceptanceTold, IsDecision, IsWitnessed, decision_line};
-ghost use Rattle.witness_text.specs.Lines.{IsTextOf};
+ghost use Rattle.language_witness.specs.Lines.{IsTextOf};
 
 use crate::answer::Answer;
 use crate::opened::opened;
 use batch::{BatchError, GridCount, Witness};
 use check_judge::{JudgeFault, TableField, traces_of};
 use check_report::{Given, Page, RunRefusal};
+use check_words::{ChallengeWords, FieldName};
 use field::Field;
 use field_words::{Challenge, Written};
-use lookup_words::{ChallengeWords, FieldName};
+use language_witness::{WitnessFault, push_witness, read_witness};
 use std::alloc::{AllocError, Global};
-use witness_text::{WitnessFault, push_witness, read_witness};
 
 /// `witness`: the text of the witness at a pair of challenges.
 pub(crate) fn witness<F: TableField, EF: Challenge<F>>(

@@ -4,13 +4,13 @@ use Rattle.std.proofs.lemmas.Bool.{cases_lt}
 use Rattle.std.proofs.lemmas.List.{take_all}
 use Rattle.std.proofs.lemmas.Option.{slice_get_within}
 use Rattle.std.specs.List.{slice_get}
-use Rattle.lists.proofs.Items.{holds_next, item_there}
-use Rattle.lists.proofs.Parts.{flat_next}
+use Rattle.list_laws.proofs.Items.{holds_next, item_there}
+use Rattle.list_laws.proofs.Parts.{flat_next}
 use Rattle.std.specs.Option.{SomeIff}
 use Rattle.field.specs.Ring.{Ring}
 use Rattle.lookup_model.specs.Plain.{trace_messages}
-use Rattle.lookup_rows.specs.SentMessages.{HasSentRows, messages_of}
-use Rattle.lookup_rows.specs.declared.messages.SentMessage.{SentMessage}
+use Rattle.lookup_messages.specs.SentMessages.{HasSentRows, messages_of}
+use Rattle.lookup_messages.specs.declared.messages.SentMessage.{SentMessage}
 use Rattle.lookup_model.specs.Batches.FlagFaults.{instance_flag_faults}
 use Rattle.lookup_model.specs.Batches.Instances.{Instance}
 use Rattle.lookup_model.specs.Batches.Messages.{batch_messages, sent_rows_of}

@@ -4,9 +4,9 @@ use Rattle.std.proofs.lemmas.List.{append_assoc, get_or-map, get_or_default, len
 use Rattle.std.proofs.lemmas.List.Elements.{All-map}
 use Rattle.std.proofs.lemmas.Slice.Zip.{length-zip}
 use Rattle.std.specs.List.{AllPairs, zip}
-use Rattle.lists.proofs.Each.{All-of_map}
-use Rattle.lists.proofs.Items.{item_at, take_item}
-use Rattle.lists.proofs.Zips.{zip_at}
+use Rattle.list_laws.proofs.Each.{All-of_map}
+use Rattle.list_laws.proofs.Items.{item_at, take_item}
+use Rattle.list_laws.proofs.Zips.{zip_at}
 use Rattle.lookup_model.specs.declared.types.Lookup.{Lookup}
 use Rattle.lookup_model.specs.Batches.Ids.{AreLawfulIds, HaveOneWidth, ShareBus, batch_lookups_with_ids}
 use Rattle.lookup_model.specs.Batches.Instances.{Instance}

@@ -4,7 +4,7 @@ use Rattle.std.proofs.lemmas.List.Elements.{All-from_recursion, recursion_from_A
 use Rattle.std.proofs.lemmas.List.Sorted.{All-permutation, IsPermutation-append, IsPermutation-refl, length_permutation}
 use Rattle.std.specs.List.{AllByRecursion, AllZip, range_with_len}
 use Rattle.std.specs.List.Sorted.{IsPermutation}
-use Rattle.lists.proofs.Each.{all_images, all_of_map, all_weaker}
+use Rattle.list_laws.proofs.Each.{all_images, all_of_map, all_weaker}
 use Rattle.field.specs.Ring.{Ring}
 use Rattle.air.specs.Traces.{AirTraces, height_of, window_of}
 use Rattle.lookup_model.specs.Challenges.{ChallengeTable, table_key_denominator}

@@ -6,12 +6,12 @@ use Rattle.std.proofs.lemmas.List.{get_or-map, length-map, map-append}
 use Rattle.std.proofs.lemmas.Option.{slice_get-get_or}
 use Rattle.std.proofs.lemmas.Simd.{map-map}
 use Rattle.std.specs.List.{AllByRecursion, filter, flat_map, range_with_len, zip}
-use Rattle.lists.proofs.Images.{filter_images}
-use Rattle.lists.proofs.Each.{all_indexed, all_weaker, each_of}
+use Rattle.list_laws.proofs.Images.{filter_images}
+use Rattle.list_laws.proofs.Each.{all_indexed, all_weaker, each_of}
 use Rattle.field.specs.Ring.{Ring}
 use Rattle.field.specs.Sums.{sum_in}
 use Rattle.field.specs.Extension.{Extension, IsLawful}
-use Rattle.expressions.specs.Window.{Window}
+use Rattle.air_expressions.specs.Window.{Window}
 use Rattle.air.specs.Traces.{AirTraces, height_of, window_of}
 use Rattle.lookup_model.specs.Message.{Key, Message, same_key}
 use Rattle.lookup_model.specs.Net.{first_seen, keys, net, unbalanced_keys}

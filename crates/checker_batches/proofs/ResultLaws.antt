@@ -2,9 +2,9 @@
 use Rattle.std.proofs.Common.{◌≡◌, ℕ, ◌+◌, ◌<◌, ◌≤◌, Option, List, [], ◌∷◌, ◌++◌, length, map, get_or, sym, ap, subst, ◌∙◌, arith, length-append}
 use Rattle.std.proofs.lemmas.List.{take_all}
 use Rattle.std.specs.List.{AllZip, zip}
-use Rattle.lists.proofs.Zips.{AllZip-more, zip_push}
-use Rattle.lists.proofs.Images.{images_more}
-use Rattle.lists.proofs.Items.{holds_next, item_there}
+use Rattle.list_laws.proofs.Zips.{AllZip-more, zip_push}
+use Rattle.list_laws.proofs.Images.{images_more}
+use Rattle.list_laws.proofs.Items.{holds_next, item_there}
 use Rattle.matrix.specs.Matrix.{Matrix}
 use Rattle.field.specs.Extension.{Extension}
 use Rattle.lookup_model.specs.declared.types.LookupTerminal.{LookupTerminal}

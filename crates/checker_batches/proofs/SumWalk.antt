@@ -3,7 +3,7 @@ use Rattle.std.proofs.Common.{◌≡◌, ◌↔◌, ℕ, zero, suc, ◌+◌, ◌
 use Rattle.std.proofs.lemmas.Grind.{flat_map-append}
 use Rattle.std.proofs.lemmas.List.{append-nil, append_assoc, length-map, take-append-drop, take_more}
 use Rattle.std.specs.List.{AllByRecursion, flat_map, range_with_len}
-use Rattle.lists.proofs.Images.{mapped_at}
+use Rattle.list_laws.proofs.Images.{mapped_at}
 use Rattle.field.specs.Ring.{Ring, IsCommutativeRing}
 use Rattle.lookup_model.specs.Challenges.{ChallengeTable}
 use Rattle.field.specs.Extension.{Extension, IsLawful}

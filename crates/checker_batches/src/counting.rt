@@ -11,8 +11,8 @@ ghost use Rattle.checker_batches.specs.internal.Collected.{GivesMessages, Pushes
 use air::Traces;
 use field::{ExtensionField, Field, Over};
 use lookup::LookupError;
+use lookup_messages::{SentMessage, key_counts, push_messages};
 use lookup_model::{BatchFault, BatchInstance, SoundnessCount};
-use lookup_rows::{SentMessage, key_counts, push_messages};
 use std::alloc::Global;
 
 /// How many messages a batch has, how many of them do not balance, and upper bounds on the challenges

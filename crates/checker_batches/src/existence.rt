@@ -1,6 +1,6 @@
 //! Whether some witness of a batch is accepted.
 ghost use Rattle.std.specs.Prelude.{◌*◌, ◌+◌, ◌<◌, ◌≤◌, ◌∷◌, [], length};
-ghost use Rattle.lookup_rows.specs.TraceBuilder.{builder_layout, ext_builder_window};
+ghost use Rattle.lookup_messages.specs.TraceBuilder.{builder_layout, ext_builder_window};
 ghost use Rattle.lookup_model.specs.Challenges.{table_of};
 ghost use Rattle.lookup_model.specs.Records.{HasEqualLengths, IsWithin, LookupsFit};
 ghost use Rattle.lookup_model.specs.Batches.Instances.{HasPrefixes, IsFitting, instance_of, instances_of};
@@ -12,9 +12,9 @@ ghost use Rattle.checker_batches.specs.internal.Sums.{AddsEquations};
 use crate::sums::Sums;
 use air::{AirBuilder, Traces};
 use field::{ExtensionField, Field, Over};
-use lookup_evaluation::quotient_of;
+use lookup_constraints::quotient_of;
+use lookup_messages::{LookupTraceBuilder, row_builder};
 use lookup_model::{BatchInstance, Challenges, Lookup, LookupError};
-use lookup_rows::{LookupTraceBuilder, row_builder};
 use std::alloc::Global;
 
 /// Whether some witness is accepted at these challenges, whoever makes it. Flags need not be lawful.

@@ -1,4 +1,4 @@
-//! The tests of `checker`, `lookup_program` and `memory_check`, in a crate of their own: a
+//! The tests of `checker`, `example_machines` and `example_memory`, in a crate of their own: a
 //! test is proved like any other function, and a crate that has tests is proved twice.
 //!
 //! They show what no contract says: that calls succeed, what the program writes, and that the

@@ -1,6 +1,6 @@
 -- Inputs that lookups are checked on.
 use Rattle.std.proofs.Common.{◌≡◌, ◌<◌, ℕ, true≢false, Option, None, Some, List, [], ◌∷◌, length, sym, arith}
-use Rattle.expressions.specs.Window.{ExtWindow}
+use Rattle.air_expressions.specs.Window.{ExtWindow}
 use Rattle.field.specs.Extension.{Extension}
 use Rattle.lookup_model.specs.Witness.{HasShape, values_of_terminal}
 use Rattle.lookup_model.specs.declared.types.Lookup.{Lookup}

@@ -3,7 +3,7 @@ use Rattle.std.proofs.Common.{◌≡◌, ◌+◌, ◌%◌, ◌*◌, ◌==◌, no
 use Rattle.std.specs.List.{AllByRecursion}
 use Rattle.matrix.specs.Matrix.{Matrix, height, row}
 use Rattle.air.specs.Traces.{AirTraces, height_of, window_of}
-use Rattle.expressions.specs.Window.{ExtWindow, Window}
+use Rattle.air_expressions.specs.Window.{ExtWindow, Window}
 use Rattle.field.specs.Extension.{Extension}
 use Rattle.lookup_model.specs.Constraints.{fraction_left}
 use Rattle.lookup_model.specs.Denominators.{tuple_denominator}

@@ -5,11 +5,11 @@ use Rattle.std.specs.declared.alloc.Global.{Global}
 use Rattle.std.specs.declared.vec.Vec.{Vec}
 use Rattle.field.specs.Ring.{sub_in}
 use Rattle.field.specs.laws.RingFacts.{same_from_difference}
-use Rattle.expressions.specs.Window.{Window}
-use Rattle.expressions.specs.declared.base_expression.SymbolicExpression.{SymbolicExpression}
+use Rattle.air_expressions.specs.Window.{Window}
+use Rattle.air_expressions.specs.declared.base_expression.SymbolicExpression.{SymbolicExpression}
 use Rattle.lookup_columns.specs.ChunkColumns.{StoreSelected, IsStored, IsStoredIfSet, key_denominator_over}
 use Rattle.lookup_columns.specs.declared.columns.BranchColumns.{BranchColumns}
-use Rattle.lookup_evaluation.specs.declared.quotient.Quotient.{Quotient}
+use Rattle.lookup_constraints.specs.declared.quotient.Quotient.{Quotient}
 use Rattle.lookup_model.specs.Constraints.{fraction_denominator, fraction_left, fraction_numerator}
 use Rattle.lookup_model.specs.Denominators.{column_denominator}
 use Rattle.field.specs.Extension.{Extension}

@@ -1,11 +1,11 @@
 -- All constraints of lookups at a window: one for each fraction, and the accumulator's.
 use Rattle.std.proofs.Common.{◌≡◌, ◌+◌, ◌%◌, ◌<◌, ◌==◌, ◌++◌, ◌∷◌, [], ℕ, Bool, not, List, length, map, take, get_or, slice_index_or, subst, sym}
 use Rattle.std.specs.List.{AllByRecursion}
-use Rattle.lists.proofs.Items.{take_item}
-use Rattle.lists.proofs.Each.{all_front, all_back, all_both, all_of_map}
+use Rattle.list_laws.proofs.Items.{take_item}
+use Rattle.list_laws.proofs.Each.{all_front, all_back, all_both, all_of_map}
 use Rattle.air.specs.Row.{input_window}
 use Rattle.air.specs.declared.debug.inputs.RowInputs.{RowInputs}
-use Rattle.expressions.specs.Window.{ExtWindow, empty_window}
+use Rattle.air_expressions.specs.Window.{ExtWindow, empty_window}
 use Rattle.field.specs.laws.Distinct.{all_map}
 use Rattle.lookup_model.specs.Constraints.{accumulator_constraints, fraction_constraint, terminal_at}
 use Rattle.field.specs.Extension.{Extension}

@@ -3,8 +3,8 @@ use Rattle.std.proofs.Common.{◌≡◌, ℕ, ◌<◌, Some, List, length, get_o
 use Rattle.std.proofs.lemmas.List.{length-map}
 use Rattle.std.proofs.lemmas.List.Elements.{All-map, recursion_from_All}
 use Rattle.std.specs.List.{AllByRecursion, slice_get}
-use Rattle.lists.proofs.Images.{mapped_at}
-use Rattle.lists.proofs.Items.{item_there}
+use Rattle.list_laws.proofs.Images.{mapped_at}
+use Rattle.list_laws.proofs.Items.{item_there}
 use Rattle.lookup_model.specs.Batches.Instances.{InstancesFit, IsFitting, instance_of, instances_of}
 use Rattle.lookup_model.specs.declared.instance.BatchInstance.{BatchInstance}
 

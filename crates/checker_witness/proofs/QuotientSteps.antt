@@ -2,7 +2,7 @@
 use Rattle.std.proofs.Common.{◌≡◌, ◌∷◌, [], ◌++◌, List, None, sym, ◌∙◌}
 use Rattle.field.specs.Extension.{Extension}
 use Rattle.field.specs.Ring.{IsCommutativeRing}
-use Rattle.lookup_evaluation.specs.declared.quotient.Quotient.{Quotient}
+use Rattle.lookup_constraints.specs.declared.quotient.Quotient.{Quotient}
 use Rattle.lookup_model.proofs.TakenOut.{product_of-push, sum_of-push}
 use Rattle.lookup_model.specs.Message.{Message}
 use Rattle.checker_witness.specs.internal.Quotients.{IsQuotientOf}

@@ -6,7 +6,7 @@ use Rattle.std.proofs.lemmas.List.FromFn.{take-map-range_with_len}
 use Rattle.std.specs.List.{AllByRecursion, range_with_len, slice_range}
 use Rattle.std.specs.Option.{ForSome}
 use Rattle.air.specs.Traces.{AirTraces, height_of, window_of}
-use Rattle.expressions.specs.Window.{row_of_option, window_at}
+use Rattle.air_expressions.specs.Window.{row_of_option, window_at}
 use Rattle.field.specs.Extension.{Extension}
 use Rattle.field.specs.Ring.{Ring}
 use Rattle.lookup_model.specs.Constraints.{lookup_constraints}

@@ -2,7 +2,7 @@
 use Rattle.std.proofs.Common.{◌≡◌, ◌≢◌, ◌⊎◌, inr, Option, Some, List, All, length, map, Result, Ok, Err, MatchResult, sym, ap, ◌∙◌, ℕ, inl}
 use Rattle.std.proofs.lemmas.List.Elements.{recursion_from_All}
 use Rattle.std.specs.List.{AllByRecursion, slice_get, zip}
-use Rattle.lists.proofs.Zips.{seconds, AllZip-there}
+use Rattle.list_laws.proofs.Zips.{seconds, AllZip-there}
 use Rattle.matrix.specs.Matrix.{Matrix}
 use Rattle.lookup_model.specs.Challenges.{ChallengeTable}
 use Rattle.field.specs.Extension.{Extension, IsLawful}

@@ -2,7 +2,7 @@
 use Rattle.std.specs.Prelude.{◌≡◌, ◌⊎◌, ◌≤◌, ◌*◌, ℕ, List, [], Result, MatchResult, length}
 use Rattle.air.specs.Traces.{AirTraces, HaveOneHeight, height_of, layout_of}
 use Rattle.checker_witness.specs.Ranges.{HoldsUntil}
-use Rattle.expressions.specs.Faults.{FailsFirstAt}
+use Rattle.air_expressions.specs.Faults.{FailsFirstAt}
 use Rattle.field.specs.Extension.{Extension}
 use Rattle.lookup_model.specs.Batches.Instances.{Instance}
 use Rattle.lookup_model.specs.Batches.Refusals.{HasShapeAt, IsShapeRefusal}

@@ -18,7 +18,7 @@ use crate::trace_row::TraceRow;
 use air::{SymbolicExpression, Traces};
 use field::{Domain, ExtensionDomain, ExtensionField, Field, Over, PrimeCharacteristicRing};
 use lookup::{Lookup, LookupTerminal};
-use lookup_evaluation::Quotient;
+use lookup_constraints::Quotient;
 use lookup_model::BatchInstance;
 use matrix::RowMajorMatrix;
 

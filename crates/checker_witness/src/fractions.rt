@@ -14,7 +14,7 @@ use air::RowInputs;
 use field::{ExtensionField, Field, Over};
 use lookup::Lookup;
 use lookup_columns::BranchColumns;
-use lookup_evaluation::Quotient;
+use lookup_constraints::Quotient;
 
 /// Up to which of the rows from `first` up to `end` the constraint of a lookup's fraction is zero: the
 /// first row on which it is not, or `end`. `columns` are those of the lookup, from row `first` on.

@@ -1,6 +1,6 @@
 //! One row of the traces of an AIR.
 ghost use Rattle.std.specs.Prelude.{◌≡◌, ◌<◌, ◌≤◌, length, slice_index_or};
-ghost use Rattle.expressions.specs.Meaning.{row_at};
+ghost use Rattle.air_expressions.specs.Meaning.{row_at};
 
 use air::{BaseEntry, BaseLeaf, SymbolicExpression, SymbolicVariable, Traces, next_row};
 use field::{Field, PrimeCharacteristicRing};
@@ -35,9 +35,9 @@ fn cell_of<F: Field>(window: &RowWindow<'_, F>, offset: usize, index: usize) -> 
 impl<'a, F: Field> TraceRow<'a, F> {
     ghost use Rattle.air.specs.Traces.{height_of, layout_of, traces_of, window_of};
     ghost use Rattle.checker_witness.specs.internal.TraceRows.{trace_layout, trace_window};
-    ghost use Rattle.expressions.specs.Layout.{EntryFits, Fits, LeafFits};
-    ghost use Rattle.expressions.specs.Meaning.{leaf_value, variable_value};
-    ghost use Rattle.expressions.specs.Tree.{tree_of};
+    ghost use Rattle.air_expressions.specs.Layout.{EntryFits, Fits, LeafFits};
+    ghost use Rattle.air_expressions.specs.Meaning.{leaf_value, variable_value};
+    ghost use Rattle.air_expressions.specs.Tree.{tree_of};
     ghost use Rattle.lookup_model.specs.Sent.{value};
 
     /// This row of the traces; after the last row comes the first one. The caller counts the rows,

@@ -1,8 +1,8 @@
 //! What `Debug` shows of an element, of which no contract speaks.
 use crate::cases::holds;
 use field::{F2, F7, PrimeCharacteristicRing};
+use field_goldilocks::{Goldilocks, Goldilocks2};
 use field_monty::{BabyBear, BabyBear4, KoalaBear, KoalaBear4};
-use goldilocks::{Goldilocks, Goldilocks2};
 use std::alloc::Global;
 use std::fmt::Debug;
 

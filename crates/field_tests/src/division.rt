@@ -4,10 +4,10 @@ use crate::cases::{holds, holds_at};
 use field::{
     DivisionLists, Domain, ExtensionField, F2, F7, Field, InverseCount, PrimeCharacteristicRing,
 };
+use field_goldilocks::{Goldilocks, Goldilocks2};
 use field_monty::{
     BabyBearParameters, KoalaBearParameters, MontyField31, MontyQuartic, QuarticParameters,
 };
-use goldilocks::{Goldilocks, Goldilocks2};
 use std::alloc::{AllocError, Global};
 
 /// Those of these elements that are not zero.

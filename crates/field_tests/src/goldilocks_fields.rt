@@ -1,6 +1,6 @@
 use crate::cases::{has_text, holds, holds_at, inverts, is, zero_has_no_inverse};
 use field::{ExtensionDomain, PrimeCharacteristicRing};
-use goldilocks::{Goldilocks, Goldilocks2};
+use field_goldilocks::{Goldilocks, Goldilocks2};
 
 #[test]
 fn whole_numbers_are_reduced(rt: HostRuntime) {

@@ -1,7 +1,7 @@
 use crate::cases::{holds, holds_for};
 use field::{F2, F7};
+use field_goldilocks::{Goldilocks, Goldilocks2};
 use field_monty::{BabyBear, BabyBear4, KoalaBear, KoalaBear4};
-use goldilocks::{Goldilocks, Goldilocks2};
 use serde::{Deserialize, DeserializeOwned, Serialize};
 use serde_json::Value;
 use std::alloc::Global;

@@ -5,7 +5,7 @@ use Rattle.std.specs.Str.{all_ascii_digits}
 use Rattle.std.specs.Str.Parse.{digits_value}
 use Rattle.field.specs.Residue.{Residue}
 use Rattle.field_monty.specs.Quartic.{Quartic, coefficients_of}
-use Rattle.goldilocks.specs.Quadratic.{Quadratic, coefficients_of as quadratic_coefficients_of}
+use Rattle.field_goldilocks.specs.Quadratic.{Quadratic, coefficients_of as quadratic_coefficients_of}
 
 -- the number that a word writes: the value of one or more decimal digits, if it is below the bound
 unfoldable pub number_of : ℕ → List ℕ → Option ℕ

@@ -5,8 +5,8 @@ ghost use Rattle.field_words.specs.Fields.{Fields, run_fields};
 ghost use Rattle.field_words.specs.Words.{WritesNumbers, WritesQuadratic, WritesQuartic, WritesResidue, number_of, number_bound};
 
 use field::{ExtensionField, F7, Field, PrimeCharacteristicRing};
+use field_goldilocks::{Goldilocks, Goldilocks2};
 use field_monty::{MontyField31, MontyQuartic, QuarticParameters};
-use goldilocks::{Goldilocks, Goldilocks2};
 
 /// A field whose elements can be given as challenges for rows over the field `F`. `written` says
 /// which element a word gives.

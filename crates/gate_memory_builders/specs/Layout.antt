@@ -1,5 +1,5 @@
 -- The layout for which the builders are made.
-use Rattle.expressions.specs.declared.layout.AirLayout.{AirLayout}
+use Rattle.air_expressions.specs.declared.layout.AirLayout.{AirLayout}
 
 -- The widths of an AIR of three columns, with room for four lookups.
 abbrev pub swept_layout : AirLayout

@@ -1,4 +1,4 @@
-//! Inputs for the program `refused_memory`, the lines that it writes, and calls over builders.
+//! Inputs for the program `gate_memory`, the lines that it writes, and calls over builders.
 #![tactic(auto)]
 
 pub mod airs;

@@ -3,11 +3,11 @@ use Rattle.std.proofs.Common.{◌≡◌, ◌++◌, ◌+◌, ◌<◌, ℕ, suc, f
 use Rattle.std.specs.Prelude.{is_some}
 use Rattle.std.proofs.Math.Seq.{take-suc}
 use Rattle.std.proofs.lemmas.List.{map-append}
-use Rattle.lookup_text.specs.Batches.{Bus, Section, bus, air, bus_section_of, section_of}
-use Rattle.lookup_text.specs.declared.batch.AirText.{AirText}
-use Rattle.lookup_text.specs.declared.batch.BusText.{BusText}
-use Rattle.lookup_text.specs.declared.batch.SectionText.{SectionText}
-use Rattle.lookup_text.specs.declared.batch.SectionText.TheVariants as texts
+use Rattle.language.specs.Batches.{Bus, Section, bus, air, bus_section_of, section_of}
+use Rattle.language.specs.declared.batch.AirText.{AirText}
+use Rattle.language.specs.declared.batch.BusText.{BusText}
+use Rattle.language.specs.declared.batch.SectionText.{SectionText}
+use Rattle.language.specs.declared.batch.SectionText.TheVariants as texts
 use Rattle.language_meaning.specs.Buses.{buses_of, declared_width, distinct_after}
 use Rattle.language_meaning.specs.Scopes.{bytes_in}
 

@@ -12,9 +12,9 @@ use Rattle.std.specs.Option.{ForSome}
 use Rattle.std.specs.Result.{IsErrAnd}
 use Rattle.std.specs.declared.alloc.Global.{Global}
 use Rattle.std.specs.declared.vec.Vec.{Vec}
-use Rattle.expressions.proofs.FirstFaults.{first_fault}
-use Rattle.expressions.specs.Tree.{tree_of}
-use Rattle.expressions.specs.declared.base_expression.SymbolicExpression.{SymbolicExpression}
+use Rattle.air_expressions.proofs.FirstFaults.{first_fault}
+use Rattle.air_expressions.specs.Tree.{tree_of}
+use Rattle.air_expressions.specs.declared.base_expression.SymbolicExpression.{SymbolicExpression}
 use Rattle.lookup_model.specs.Outline.{bus_of, outline_of}
 use Rattle.lookup_model.specs.Records.{AreRecords, HasEqualLengths, IsRecordAt}
 use Rattle.lookup_model.specs.declared.types.Lookup.{Lookup}

@@ -1,6 +1,6 @@
 -- What formulas mean takes as much room as it has nodes.
 use Rattle.std.proofs.Common.{◌≡◌, ◌+◌, ◌-◌, ◌≤◌, ℕ, Bool, true, false, cond, Result, Ok, Err, nat_le, arith, refl, subst, leb-true}
-use Rattle.lookup_text.specs.Formulas.{Formula, name, next, number, negative, sum, difference, product, power}
+use Rattle.language.specs.Formulas.{Formula, name, next, number, negative, sum, difference, product, power}
 use Rattle.language_meaning.specs.declared.name_fault.NameRefusal.{NameRefusal}
 use Rattle.language_meaning.specs.Faults.{◌>>=◌}
 use Rattle.language_meaning.specs.Room.{InRoom}

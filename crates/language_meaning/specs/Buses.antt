@@ -1,8 +1,8 @@
 -- The buses that a text declares, and the tuples that they take.
 use Rattle.std.specs.Prelude.{◌==◌, ℕ, Bool, true, false, List, [], ◌∷◌, ◌++◌, Option, Some, None, Result, Ok, is_some, length, nat_lt, if◌then◌else◌}
 use Rattle.std.specs.Str.{bytes_eq}
-use Rattle.lookup_text.specs.Batches.{Bus, Section, bus, air}
-use Rattle.lookup_text.specs.declared.token.Span.{Span}
+use Rattle.language.specs.Batches.{Bus, Section, bus, air}
+use Rattle.language.specs.declared.token.Span.{Span}
 use Rattle.language_meaning.specs.declared.name_fault.NameRefusal.{NameRefusal}
 use Rattle.language_meaning.specs.declared.name_fault.NameWhy.TheVariants.{UndeclaredBus, TupleWidth, RepeatedBus}
 use Rattle.language_meaning.specs.Faults.{refusal_of_name}

@@ -2,10 +2,10 @@
 use Rattle.std.specs.Prelude.{◌≡◌, ◌⊎◌, ◌+◌, ◌^◌, ◌<◌, ◌≤◌, ℕ, All, Bool, true, false, List, [], ◌∷◌, Option, Some, None, map, max, option_map, if◌then◌else◌}
 use Rattle.std.specs.Option.{ForSome}
 use Rattle.std.specs.Str.{IsUtf8}
-use Rattle.expressions.specs.Faults.{HasFirstFault}
-use Rattle.expressions.specs.Tree.{Tree}
+use Rattle.air_expressions.specs.Faults.{HasFirstFault}
+use Rattle.air_expressions.specs.Tree.{Tree}
 use Rattle.lookup_model.specs.Outline.{Outline}
-use Rattle.lookup_text.specs.declared.token.Span.{Span}
+use Rattle.language.specs.declared.token.Span.{Span}
 use Rattle.language_meaning.specs.Lookups.{Column, SentPart}
 use Rattle.language_meaning.specs.Scopes.{bytes_in}
 use Rattle.language_meaning.specs.Values.{Meant, number}

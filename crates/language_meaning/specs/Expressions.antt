@@ -1,9 +1,9 @@
 -- Values as the trees of expressions, over elements that numbers stand for.
 use Rattle.std.specs.Prelude.{ℕ}
-use Rattle.expressions.specs.Tree.{Tree, leaf, add, sub, mul, neg}
-use Rattle.expressions.specs.declared.base_expression.BaseLeaf.TheVariants.{Variable, IsFirstRow, IsLastRow, IsTransition, Constant}
-use Rattle.expressions.specs.declared.variable.BaseEntry.{BaseEntry}
-use Rattle.expressions.specs.declared.variable.BaseEntry.TheVariants as entries
+use Rattle.air_expressions.specs.Tree.{Tree, leaf, add, sub, mul, neg}
+use Rattle.air_expressions.specs.declared.base_expression.BaseLeaf.TheVariants.{Variable, IsFirstRow, IsLastRow, IsTransition, Constant}
+use Rattle.air_expressions.specs.declared.variable.BaseEntry.{BaseEntry}
+use Rattle.air_expressions.specs.declared.variable.BaseEntry.TheVariants as entries
 use Rattle.language_meaning.specs.Values.{Meant}
 use Rattle.language_meaning.specs.Values as values
 

@@ -3,9 +3,9 @@ use Rattle.std.specs.Prelude.{◌++◌, ℕ, List, [], ◌∷◌, Option, None, 
 use Rattle.std.specs.Str.{bytes_eq}
 use Rattle.std.specs.declared.alloc.Global.{Global}
 use Rattle.std.specs.declared.vec.Vec.{Vec}
-use Rattle.lookup_text.specs.Batches.{Section, bus, air}
-use Rattle.lookup_text.specs.Items.{Item, Placed}
-use Rattle.lookup_text.specs.Items as items
+use Rattle.language.specs.Batches.{Section, bus, air}
+use Rattle.language.specs.Items.{Item, Placed}
+use Rattle.language.specs.Items as items
 use Rattle.language_meaning.specs.Scopes.{bytes_in}
 use Rattle.language_meaning.specs.declared.files.NamedFile.{NamedFile}
 

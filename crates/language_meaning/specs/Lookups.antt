@@ -1,11 +1,11 @@
 -- The lookups of an AIR: what its items say, over columns by their numbers.
 use Rattle.std.specs.Prelude.{◌+◌, ℕ, Bool, true, false, List, [], ◌∷◌, Option, Some, None, Result, Ok, is_some, length, map, option_map, if◌then◌else◌}
-use Rattle.lookup_text.specs.declared.token.Span.{Span}
-use Rattle.lookup_text.specs.Batches.{Section}
-use Rattle.lookup_text.specs.Formulas.{Formula}
-use Rattle.lookup_text.specs.Items.{Item, Part, Placed}
-use Rattle.lookup_text.specs.Items as items
-use Rattle.lookup_text.specs.Messages.{Message}
+use Rattle.language.specs.declared.token.Span.{Span}
+use Rattle.language.specs.Batches.{Section}
+use Rattle.language.specs.Formulas.{Formula}
+use Rattle.language.specs.Items.{Item, Part, Placed}
+use Rattle.language.specs.Items as items
+use Rattle.language.specs.Messages.{Message}
 use Rattle.language_meaning.specs.declared.air.Added.{Added}
 use Rattle.language_meaning.specs.declared.air.Added.TheVariants as added
 use Rattle.language_meaning.specs.declared.air.NamedAir.{NamedAir}

@@ -1,9 +1,9 @@
 -- What messages send and how often, over columns by their numbers.
 use Rattle.std.specs.Prelude.{ℕ, List, [], ◌∷◌, Option, Some, None, Result, Ok, map}
-use Rattle.lookup_text.specs.declared.message.Verb.{Verb}
-use Rattle.lookup_text.specs.declared.message.Verb.TheVariants.{Query, Provide, Send, Receive}
-use Rattle.lookup_text.specs.Formulas.{Formula, number as number_formula}
-use Rattle.lookup_text.specs.Messages.{Message}
+use Rattle.language.specs.declared.message.Verb.{Verb}
+use Rattle.language.specs.declared.message.Verb.TheVariants.{Query, Provide, Send, Receive}
+use Rattle.language.specs.Formulas.{Formula, number as number_formula}
+use Rattle.language.specs.Messages.{Message}
 use Rattle.language_meaning.specs.declared.name_fault.NameRefusal.{NameRefusal}
 use Rattle.language_meaning.specs.declared.name_fault.NameWhy.TheVariants.{NoWeight}
 use Rattle.language_meaning.specs.declared.message.NamedMessage.{NamedMessage}

@@ -3,8 +3,8 @@ use Rattle.std.specs.Prelude.{◌&&◌, ◌++◌, ◌-◌, ℕ, List, [], ◌∷
 use Rattle.std.specs.Str.{bytes_eq}
 use Rattle.std.specs.declared.alloc.Global.{Global}
 use Rattle.std.specs.declared.vec.Vec.{Vec}
-use Rattle.lookup_text.specs.declared.token.Span.{Span}
-use Rattle.lookup_text.specs.Formulas.{Formula, name, next, number, negative, sum, difference, product, power}
+use Rattle.language.specs.declared.token.Span.{Span}
+use Rattle.language.specs.Formulas.{Formula, name, next, number, negative, sum, difference, product, power}
 use Rattle.language_meaning.specs.declared.name_fault.NameRefusal.{NameRefusal}
 use Rattle.language_meaning.specs.declared.name_fault.NameWhy.TheVariants.{UnknownName, UnknownColumn, LargeExpression, DeepExpression}
 use Rattle.language_meaning.specs.declared.scope.Defined.{Defined}

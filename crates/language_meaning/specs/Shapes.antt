@@ -2,11 +2,11 @@
 use Rattle.std.specs.Prelude.{◌/◌, ◌++◌, ℕ, Bool, List, [], ◌∷◌, Option, Some, None, Result, Ok, length, map, if◌then◌else◌}
 use Rattle.std.specs.List.{list_any}
 use Rattle.std.specs.Str.{bytes_eq}
-use Rattle.lookup_text.specs.Batches.{Air, Section, bus, air}
-use Rattle.lookup_text.specs.Items.{Item}
-use Rattle.lookup_text.specs.Items as items
-use Rattle.lookup_text.specs.Tables.{Numbers}
-use Rattle.lookup_text.specs.declared.token.Span.{Span}
+use Rattle.language.specs.Batches.{Air, Section, bus, air}
+use Rattle.language.specs.Items.{Item}
+use Rattle.language.specs.Items as items
+use Rattle.language.specs.Tables.{Numbers}
+use Rattle.language.specs.declared.token.Span.{Span}
 use Rattle.language_meaning.specs.Scopes.{bytes_in}
 use Rattle.language_meaning.specs.declared.table_fault.TableRefusal.{TableRefusal}
 use Rattle.language_meaning.specs.declared.table_fault.TableWhy.{TableWhy}

@@ -2,12 +2,12 @@
 use Rattle.std.specs.Prelude.{◌≡◌, ℕ, List, [], ◌∷◌, Option, Some, None, Result, Ok, Err, map, option_map}
 use Rattle.std.specs.declared.alloc.Global.{Global}
 use Rattle.std.specs.declared.vec.Vec.{Vec}
-use Rattle.lookup_text.specs.Batches.{Air, Section, bus, air}
-use Rattle.lookup_text.specs.Items.{Item, Placed}
-use Rattle.lookup_text.specs.Items as items
-use Rattle.lookup_text.specs.Tables.{Numbers, table_at, table_of}
-use Rattle.lookup_text.specs.declared.fault.Fault.{Fault}
-use Rattle.lookup_text.specs.declared.token.Span.{Span}
+use Rattle.language.specs.Batches.{Air, Section, bus, air}
+use Rattle.language.specs.Items.{Item, Placed}
+use Rattle.language.specs.Items as items
+use Rattle.language.specs.Tables.{Numbers, table_at, table_of}
+use Rattle.language.specs.declared.fault.Fault.{Fault}
+use Rattle.language.specs.declared.token.Span.{Span}
 use Rattle.language_meaning.specs.Scopes.{bytes_in}
 use Rattle.language_meaning.specs.declared.table_fault.TableFault.{TableFault}
 use Rattle.language_meaning.specs.declared.table_fault.TableFault.TheVariants as faults

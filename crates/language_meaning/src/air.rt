@@ -1,9 +1,9 @@
 //! The lookups of an AIR.
 ghost use Rattle.std.specs.Prelude.{◌≡◌, IfOk, map, option_map};
-ghost use Rattle.lookup_text.specs.Batches.{section_of};
-ghost use Rattle.lookup_text.specs.Formulas.{formula_of};
-ghost use Rattle.lookup_text.specs.Items.{group_part_of as said_part, placed_of};
-ghost use Rattle.lookup_text.specs.Messages.{message_of as said_by};
+ghost use Rattle.language.specs.Batches.{section_of};
+ghost use Rattle.language.specs.Formulas.{formula_of};
+ghost use Rattle.language.specs.Items.{group_part_of as said_part, placed_of};
+ghost use Rattle.language.specs.Messages.{message_of as said_by};
 ghost use Rattle.language_meaning.specs.Faults.{IsNameResultOrMemory};
 ghost use Rattle.language_meaning.specs.Lookups.{addition, addition_of, bus_kept, column_alone, column_of, column_together, defined_by, flag_meant, message_on, new_name, sent_part_of, part_on, parts_on, said_by_items, said_of};
 ghost use Rattle.language_meaning.specs.Messages.{sent_of};
@@ -16,7 +16,7 @@ use crate::message::{NamedMessage, named_message};
 use crate::name_fault::{NameFault, NameRefusal, NameWhy, refused};
 use crate::scope::{Defined, Scope, bytes_of, defined_value, value_of};
 use crate::value::Value;
-use lookup_text::{
+use language::{
     AirText, BatchText, ItemText, MessageText, PartText, PlacedItem, SectionText, Span, Tree,
 };
 use std::alloc::{AllocError, Global};

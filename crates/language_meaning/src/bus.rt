@@ -1,12 +1,12 @@
 //! The buses that a text declares.
 ghost use Rattle.std.specs.Prelude.{◌≡◌, map};
-ghost use Rattle.lookup_text.specs.Batches.{section_of};
+ghost use Rattle.language.specs.Batches.{section_of};
 ghost use Rattle.language_meaning.specs.Buses.{bus_checked, buses_of, declared_width, declares_any, distinct_buses, same_bus};
 ghost use Rattle.language_meaning.specs.Scopes.{bytes_in};
 
 use crate::name_fault::{NameRefusal, NameWhy};
 use crate::scope::bytes_of;
-use lookup_text::{BatchText, SectionText, Span};
+use language::{BatchText, SectionText, Span};
 
 /// Whether no bus of a text is declared twice. Refuses the first bus whose name was declared before.
 pub fn check_buses(text: &[u8], batch: &BatchText) -> Result<(), NameRefusal>

@@ -1,12 +1,12 @@
 //! Values as expressions over a field.
 ghost use Rattle.std.specs.Prelude.{◌≡◌, IfOk};
-ghost use Rattle.expressions.specs.Tree.{tree_of};
+ghost use Rattle.air_expressions.specs.Tree.{tree_of};
 ghost use Rattle.field.specs.Ring.{of_nat};
 ghost use Rattle.language_meaning.specs.Values.{meant_of};
 ghost use Rattle.language_meaning.specs.Expressions.{cell_in, tree_in};
 
 use crate::value::Value;
-use expressions::{BaseEntry, BaseLeaf, SymbolicExpression, SymbolicVariable};
+use air_expressions::{BaseEntry, BaseLeaf, SymbolicExpression, SymbolicVariable};
 use field::PrimeCharacteristicRing;
 use std::alloc::{AllocError, Global};
 

@@ -1,12 +1,12 @@
 //! The files that a text names.
 ghost use Rattle.std.specs.Prelude.{◌≡◌, ◌++◌, IfOk, OnOk, map, option_map};
-ghost use Rattle.lookup_text.specs.Batches.{section_of};
-ghost use Rattle.lookup_text.specs.Items.{placed_of};
+ghost use Rattle.language.specs.Batches.{section_of};
+ghost use Rattle.language.specs.Items.{placed_of};
 ghost use Rattle.language_meaning.specs.Files.{content_of, file_of, files_in, files_of_items, named_of};
 ghost use Rattle.language_meaning.specs.Tables.{names_in};
 
 use crate::scope::bytes_of;
-use lookup_text::{BatchText, ItemText, PlacedItem, SectionText};
+use language::{BatchText, ItemText, PlacedItem, SectionText};
 use std::alloc::{AllocError, Global};
 
 /// A file by its name, and what it holds: `None` where it cannot be read.

@@ -1,6 +1,6 @@
 //! Lookups of names as lookups over a field.
 ghost use Rattle.std.specs.Prelude.{◌≡◌, ◌⊎◌, ◌^◌, ◌≤◌, IfOk, MatchOption, MatchResult, map, option_map};
-ghost use Rattle.expressions.specs.Tree.{tree_of};
+ghost use Rattle.air_expressions.specs.Tree.{tree_of};
 ghost use Rattle.field.specs.Ring.{of_nat};
 ghost use Rattle.lookup_model.specs.Outline.{bus_of, outline_of};
 ghost use Rattle.lookup_model.specs.Records.{AreRecords, IsRecordAt};
@@ -15,10 +15,10 @@ use crate::element_fault::{ElementFault, ElementRefusal, ElementWhy};
 use crate::expression::expression_of;
 use crate::scope::bytes_of;
 use crate::value::Value;
-use expressions::SymbolicExpression;
+use air_expressions::SymbolicExpression;
 use field::PrimeCharacteristicRing;
+use language::Span;
 use lookup_model::{Kind, Lookup};
-use lookup_text::Span;
 use std::alloc::{AllocError, Global};
 
 /// Lookups of a text over a field, in the columns 0, 1, 2, …

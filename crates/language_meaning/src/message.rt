@@ -1,7 +1,7 @@
 //! What messages send, and how often.
 ghost use Rattle.std.specs.Prelude.{◌≡◌, IfOk, map};
-ghost use Rattle.lookup_text.specs.Formulas.{formula_of};
-ghost use Rattle.lookup_text.specs.Messages.{message_of as said_by};
+ghost use Rattle.language.specs.Formulas.{formula_of};
+ghost use Rattle.language.specs.Messages.{message_of as said_by};
 ghost use Rattle.language_meaning.specs.Faults.{IsNameResultOrMemory};
 ghost use Rattle.language_meaning.specs.Messages.{all_meant, constant_of, count_of, meant_message, sent_of, signed_count, times_of, weight_of_message};
 ghost use Rattle.language_meaning.specs.Room.{in_room};
@@ -11,7 +11,7 @@ ghost use Rattle.language_meaning.specs.Values.{meant_of};
 use crate::name_fault::{NameFault, NameRefusal, NameWhy};
 use crate::scope::{Scope, value_of};
 use crate::value::Value;
-use lookup_text::{MessageText, Tree, Verb};
+use language::{MessageText, Tree, Verb};
 use std::alloc::{AllocError, Global};
 
 /// A message over columns by their numbers.

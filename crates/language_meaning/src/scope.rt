@@ -1,7 +1,7 @@
 //! What names stand for, and what expressions mean with them.
 ghost use Rattle.std.specs.Prelude.{◌≡◌, ◌-◌, map, option_map, position};
 ghost use Rattle.std.specs.Str.{bytes_eq};
-ghost use Rattle.lookup_text.specs.Formulas.{formula_of};
+ghost use Rattle.language.specs.Formulas.{formula_of};
 ghost use Rattle.language_meaning.specs.Faults.{IsNameResultOrMemory};
 ghost use Rattle.language_meaning.specs.Room.{in_room};
 ghost use Rattle.language_meaning.specs.Scopes.{bytes_in, cell_of, defined_of, definition, fixed_name, front_of, meaning, meaning_in, named_in, names_of, next_named, column_number_of, value_in_room, selector_of};
@@ -12,7 +12,7 @@ use crate::value::{
     Value, copy_of, difference_of, has_layers, power_of, product_of, room_after, room_after_power,
     sum_of,
 };
-use lookup_text::{Span, Tree};
+use language::{Span, Tree};
 use std::alloc::Global;
 
 /// A name with the value that it stands for.

@@ -1,8 +1,8 @@
 //! How large the traces of AIRs are, where there may be none yet.
 ghost use Rattle.std.specs.Prelude.{◌≡◌, [], IfOk, None, map, option_map};
-ghost use Rattle.lookup_text.specs.Batches.{air_of, section_of};
-ghost use Rattle.lookup_text.specs.Items.{placed_of};
-ghost use Rattle.lookup_text.specs.Tables.{table_of};
+ghost use Rattle.language.specs.Batches.{air_of, section_of};
+ghost use Rattle.language.specs.Items.{placed_of};
+ghost use Rattle.language.specs.Tables.{table_of};
 ghost use Rattle.language_meaning.specs.Scopes.{bytes_in};
 ghost use Rattle.language_meaning.specs.Files.{named_of};
 ghost use Rattle.language_meaning.specs.Shapes.{air_shape, all_shapes, column_names, columns_in, distinct_names, height_in, main_size, said_size, shape_of, size_in};
@@ -12,7 +12,7 @@ use crate::files::NamedFile;
 use crate::scope::bytes_of;
 use crate::table_fault::{TableFault, TableWhy};
 use crate::tables::{first, one_preprocessed, one_trace, refused, table_named};
-use lookup_text::{AirText, BatchText, ItemText, PlacedItem, SectionText, Span, Table};
+use language::{AirText, BatchText, ItemText, PlacedItem, SectionText, Span, Table};
 use std::alloc::{AllocError, Global};
 
 /// How large the traces of an AIR are.

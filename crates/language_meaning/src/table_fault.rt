@@ -2,7 +2,7 @@
 ghost use Rattle.std.specs.Prelude.{◌≡◌};
 ghost use Rattle.language_meaning.specs.declared.table_fault.TableFault.TheVariants.{Memory};
 
-use lookup_text::{Span, Why};
+use language::{Span, Why};
 use std::alloc::{AllocError, AllocFailed};
 
 /// What is wrong with the tables of an AIR.

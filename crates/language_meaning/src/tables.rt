@@ -1,15 +1,15 @@
 //! The tables of the AIRs of a batch, from the bytes of their files.
 ghost use Rattle.std.specs.Prelude.{◌≡◌, None, Some, map};
-ghost use Rattle.lookup_text.specs.Batches.{air_of, section_of};
-ghost use Rattle.lookup_text.specs.Items.{item_of, placed_of};
-ghost use Rattle.lookup_text.specs.Tables.{table_of};
+ghost use Rattle.language.specs.Batches.{air_of, section_of};
+ghost use Rattle.language.specs.Items.{item_of, placed_of};
+ghost use Rattle.language.specs.Tables.{table_of};
 ghost use Rattle.language_meaning.specs.Files.{named_of};
 ghost use Rattle.language_meaning.specs.Tables.{IsTableResultOrMemory, air_tables, all_tables, fixed_in, one_more, one_of, table_named, tables_of, trace_in};
 
 use crate::files::{NamedFile, content_of};
 use crate::scope::bytes_of;
 use crate::table_fault::{TableFault, TableRefusal, TableWhy};
-use lookup_text::{
+use language::{
     AirText, BatchText, ItemText, PlacedItem, SectionText, Span, Table, TextFault, read_table,
 };
 use std::alloc::Global;

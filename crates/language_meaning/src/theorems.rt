@@ -1,7 +1,7 @@
 //! What expressions take of the room for nodes. The function does nothing: its contract is the
 //! theorem.
 ghost use Rattle.std.specs.Prelude.{◌≡◌, ◌+◌, ◌≤◌, ℕ, Ok};
-ghost use Rattle.lookup_text.specs.Formulas.{Formula};
+ghost use Rattle.language.specs.Formulas.{Formula};
 ghost use Rattle.language_meaning.specs.Scopes.{NamesInScope, meaning};
 ghost use Rattle.language_meaning.specs.Values.{Meant, layers_of, node_count_of};
 

@@ -6,7 +6,7 @@ ghost use Rattle.language_meaning.specs.Traces.{HasWholeRows};
 
 use field::PrimeCharacteristicRing;
 use field_words::elements_of;
-use lookup_text::Table;
+use language::Table;
 use matrix::RowMajorMatrix;
 use std::alloc::{AllocError, Global};
 

@@ -9,8 +9,8 @@ use Rattle.std.specs.declared.alloc.Global.{Global}
 use Rattle.std.specs.declared.string.String.{String}
 use Rattle.indexmap.proofs.MapLemmas.{Found, Found-position, insert_entry-first}
 use Rattle.indexmap.specs.IndexMap.{insert_entry, set_value_at}
-use Rattle.lists.proofs.Images.{map-map}
-use Rattle.lists.proofs.Zips.{AllZip-images, AllZip-same_map, AllZip-weaker}
+use Rattle.list_laws.proofs.Images.{map-map}
+use Rattle.list_laws.proofs.Zips.{AllZip-images, AllZip-same_map, AllZip-weaker}
 use Rattle.lookup_model.specs.Names.{same_name}
 use Rattle.lookup_model.specs.Outline.{Outline}
 use Rattle.lookup.proofs.GroupLaws.{groups-lookup, groups-push}

@@ -2,9 +2,9 @@
 use Rattle.std.proofs.Common.{◌≡◌, ◌+◌, ℕ, List, [], ◌∷◌, Result, map, refl, sym, ap, subst, ◌∙◌}
 use Rattle.std.proofs.lemmas.List.Folds.{flat_map-map}
 use Rattle.std.specs.List.{AllByRecursion, flat_map}
-use Rattle.lists.proofs.Each.{all_images, all_joined, all_parts, all_weaker}
-use Rattle.lists.proofs.Parts.{flat_map-flat_map, flat_same}
-use Rattle.lists.proofs.Zips.{AllZip-right, AllZip-same_parts}
+use Rattle.list_laws.proofs.Each.{all_images, all_joined, all_parts, all_weaker}
+use Rattle.list_laws.proofs.Parts.{flat_map-flat_map, flat_same}
+use Rattle.list_laws.proofs.Zips.{AllZip-right, AllZip-same_parts}
 use Rattle.lookup_model.specs.Outline.{Outline}
 use Rattle.lookup_model.specs.declared.error.LookupError.{LookupError}
 use Rattle.lookup.specs.Buses.{on_bus}

@@ -4,8 +4,8 @@ use Rattle.std.proofs.lemmas.List.{map-append}
 use Rattle.std.specs.List.{zip}
 use Rattle.std.specs.Option.{option_map}
 use Rattle.std.specs.Result.{result_ok}
-use Rattle.lists.proofs.Zips.{zip-append, zip_mapped}
-use Rattle.expressions.specs.declared.base_expression.SymbolicExpression.{SymbolicExpression}
+use Rattle.list_laws.proofs.Zips.{zip-append, zip_mapped}
+use Rattle.air_expressions.specs.declared.base_expression.SymbolicExpression.{SymbolicExpression}
 use Rattle.lookup_model.proofs.SumDegreeLaws.{degree_of_back, degree_of_front}
 use Rattle.lookup_model.specs.LookupDegree.{BranchDegrees, IsDegree, branch_degrees, constraint_degree_of, expression_degree, lookup_branch_degrees, outline_branch_degrees, outline_degree}
 use Rattle.lookup_model.specs.Outline.{Outline, fields_of}

@@ -1,14 +1,14 @@
 -- What an evaluation keeps of a builder.
 use Rattle.std.proofs.Common.{◌≡◌, ◌↔◌, ℕ, List, [], ◌∷◌, ◌++◌, Result, refl, ap, ◌∙◌, arith}
 use Rattle.field.specs.Ring.{of_bool, sub_in}
-use Rattle.expressions.specs.Window.{ExtWindow}
-use Rattle.expressions.specs.declared.error.AirError.{AirError}
-use Rattle.expressions.specs.declared.layout.AirLayout.{AirLayout}
-use Rattle.lookup_evaluation.specs.Asserted.{Asserts, Evaluates, IsConstraint}
+use Rattle.air_expressions.specs.Window.{ExtWindow}
+use Rattle.air_expressions.specs.declared.error.AirError.{AirError}
+use Rattle.air_expressions.specs.declared.layout.AirLayout.{AirLayout}
+use Rattle.lookup_constraints.specs.Asserted.{Asserts, Evaluates, IsConstraint}
 use Rattle.lookup_model.specs.Constraints.{Constraint, accumulator_at, accumulator_constraints, fractions_at}
 use Rattle.field.specs.Extension.{Extension}
 use Rattle.lookup_model.specs.declared.types.Lookup.{Lookup}
-use Rattle.lookup_evaluation.proofs.AssertedLaws.{Reads, asserts_keep, evaluates_read, evaluates_then, fewer_windows}
+use Rattle.lookup_constraints.proofs.AssertedLaws.{Reads, asserts_keep, evaluates_read, evaluates_then, fewer_windows}
 
 module _ {B X C : Type 0} (accepts : B → X → B → Type 0) (is : C → X → Type 0) where
   -- the layout stays where each assertion keeps it

@@ -5,13 +5,13 @@ use Rattle.std.proofs.lemmas.List.Elements.{All-map, recursion_from_All}
 use Rattle.std.specs.List.{enumerate_from, zip}
 use Rattle.std.specs.declared.alloc.Global.{Global}
 use Rattle.std.specs.declared.vec.Vec.{Vec}
-use Rattle.lists.proofs.Images.{map-map}
-use Rattle.lists.proofs.Items.{enumerate_from-append}
-use Rattle.lists.proofs.Zips.{zip_mapped, zip_of_maps}
+use Rattle.list_laws.proofs.Images.{map-map}
+use Rattle.list_laws.proofs.Items.{enumerate_from-append}
+use Rattle.list_laws.proofs.Zips.{zip_mapped, zip_of_maps}
 use Rattle.field.specs.Ring.{Ring}
-use Rattle.expressions.specs.Window.{Window}
-use Rattle.expressions.specs.declared.base_expression.SymbolicExpression.{SymbolicExpression}
-use Rattle.expressions.specs.declared.layout.AirLayout.{AirLayout}
+use Rattle.air_expressions.specs.Window.{Window}
+use Rattle.air_expressions.specs.declared.base_expression.SymbolicExpression.{SymbolicExpression}
+use Rattle.air_expressions.specs.declared.layout.AirLayout.{AirLayout}
 use Rattle.lookup_model.specs.Outline.{Outline, fields_of}
 use Rattle.lookup_model.specs.Sent.{Sent, branch_at, sent, sent_at, value, values}
 use Rattle.lookup_model.specs.Trace.{sent_row_under}
@@ -20,7 +20,7 @@ use Rattle.lookup_model.specs.declared.types.Lookup.{Lookup}
 use Rattle.lookup_record.specs.Interaction.{ExclusiveInteraction, GlobalInteraction, Interaction, Tuple, exclusive, global, local}
 use Rattle.lookup_record.specs.RecordedAir.{RecordedAir, no_air_recorded, with_interaction}
 use Rattle.lookup.specs.Extraction.{IsFaultless, IsFirstLocalRefusal, IsLocalRefusal, exclusive_at, extraction, global_at, in_columns, local_at, tuple_widths}
-use Rattle.lists.proofs.Each.{all_back, All-there}
+use Rattle.list_laws.proofs.Each.{all_back, All-there}
 use Rattle.lookup.specs.Sends.{bus_and_weight, in_order, interaction_sends, interaction_tuples, lookup_bus_and_weight}
 
 module _ {E : Type 0} where

@@ -4,11 +4,11 @@ use Rattle.std.proofs.lemmas.List.{append-nil, append_assoc, length-append, leng
 use Rattle.std.proofs.lemmas.List.Elements.{All-cons, All-map}
 use Rattle.std.proofs.lemmas.List.FromFn.{length-enumerate_from}
 use Rattle.std.specs.List.{enumerate_from}
-use Rattle.lists.proofs.Images.{map-map, same_length}
+use Rattle.list_laws.proofs.Images.{map-map, same_length}
 use Rattle.lookup_model.specs.declared.error.LookupError.{LookupError}
 use Rattle.lookup_record.specs.Interaction.{Tuple, GlobalInteraction, ExclusiveInteraction}
 use Rattle.lookup_model.specs.Outline.{Outline}
-use Rattle.lists.proofs.Each.{All-of_map}
+use Rattle.list_laws.proofs.Each.{All-of_map}
 use Rattle.lookup.specs.Extraction.{exclusive_at, extraction, global_at, in_columns, local_at, tuple_widths, IsFaultless, IsFirstLocalRefusal, IsLocalRefusal}
 
 -- one more lookup, in the next column

@@ -4,10 +4,10 @@ use Rattle.std.proofs.lemmas.List.{append-nil, length-map, map-append, drop-drop
 use Rattle.std.proofs.lemmas.List.Elements.{filter-append}
 use Rattle.std.specs.List.{AllByRecursion, filter, filter_map, flat_map, zip}
 use Rattle.std.specs.Option.{option_map}
-use Rattle.lists.proofs.Images.{filter_images}
-use Rattle.lists.proofs.Zips.{zip-append}
-use Rattle.lists.proofs.Each.{all_front, all_back, all_both, all_kept, all_with, filter_passes}
-use Rattle.expressions.specs.declared.base_expression.SymbolicExpression.{SymbolicExpression}
+use Rattle.list_laws.proofs.Images.{filter_images}
+use Rattle.list_laws.proofs.Zips.{zip-append}
+use Rattle.list_laws.proofs.Each.{all_front, all_back, all_both, all_kept, all_with, filter_passes}
+use Rattle.air_expressions.specs.declared.base_expression.SymbolicExpression.{SymbolicExpression}
 use Rattle.lookup_model.proofs.Lookups.Regrouping.{IsSeparate, first_seen_separate}
 use Rattle.lookup_model.specs.LookupDegree.{branch_degrees, constraint_degree_of, expression_degree, outline_branch_degrees, outline_degree, BranchDegrees}
 use Rattle.lookup_model.specs.Outline.{Outline}

@@ -4,8 +4,8 @@ use Rattle.std.proofs.lemmas.Grind.{flat_map-append}
 use Rattle.std.proofs.lemmas.List.{append-nil, append_assoc, map-append, nil_from_length, length-map}
 use Rattle.std.proofs.lemmas.List.Sums.{sum_by-append, sum_by-cons}
 use Rattle.std.specs.List.{AllByRecursion, flat_map, sum_by}
-use Rattle.lists.proofs.Images.{map_split}
-use Rattle.lists.proofs.Each.{all_front, all_back, all_both}
+use Rattle.list_laws.proofs.Images.{map_split}
+use Rattle.list_laws.proofs.Each.{all_front, all_back, all_both}
 use Rattle.lookup_model.specs.Outline.{Outline}
 use Rattle.lookup_model.specs.Weight.{weight_bound}
 use Rattle.lookup_model.specs.declared.error.LookupError.{LookupError}

@@ -8,15 +8,15 @@ use Rattle.std.specs.Option.{option_map_or}
 use Rattle.std.specs.declared.alloc.Global.{Global}
 use Rattle.std.specs.Borrow.{Bor}
 use Rattle.std.specs.declared.vec.Vec.{Vec}
-use Rattle.lists.proofs.Images.{images_more, map_same}
-use Rattle.expressions.specs.declared.base_expression.SymbolicExpression.{SymbolicExpression}
+use Rattle.list_laws.proofs.Images.{images_more, map_same}
+use Rattle.air_expressions.specs.declared.base_expression.SymbolicExpression.{SymbolicExpression}
 use Rattle.indexmap.specs.IndexMap.{insert_entry}
 use Rattle.lookup_model.proofs.Lookups.Regrouping.{first_seen_separate}
 use Rattle.lookup_model.proofs.Names.{same_name-Decides}
 use Rattle.lookup_model.specs.Net.{first_seen}
 use Rattle.lookup_model.specs.Outline.{Outline, bus_of, fields_of}
-use Rattle.lookup_rows.proofs.FirstSeen.{first_seen-push}
-use Rattle.lookup_rows.proofs.NetEntries.{any-first_seen, insert-valued, lookup-valued, turned}
+use Rattle.lookup_messages.proofs.FirstSeen.{first_seen-push}
+use Rattle.lookup_messages.proofs.NetEntries.{any-first_seen, insert-valued, lookup-valued, turned}
 use Rattle.lookup_model.specs.declared.types.Lookup.{Lookup}
 use Rattle.lookup.specs.Buses.{bus_groups, bus_names, group_of, on_bus}
 use Rattle.lookup_model.specs.Names.{is_named, same_name}

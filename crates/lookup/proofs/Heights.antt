@@ -6,8 +6,8 @@ use Rattle.std.proofs.lemmas.List.FromFn.{length-map-range_with_len}
 use Rattle.std.proofs.lemmas.List.Sums.{sum_by-append, sum_by-cons}
 use Rattle.std.proofs.lemmas.Nat.Gcd.{le_of_dvd}
 use Rattle.std.specs.List.{AllByRecursion, AllZip, flat_map, range_with_len, sum_by, zip}
-use Rattle.lists.proofs.Each.{all_images, each_of}
-use Rattle.lists.proofs.Zips.{AllZip-append}
+use Rattle.list_laws.proofs.Each.{all_images, each_of}
+use Rattle.list_laws.proofs.Zips.{AllZip-append}
 use Rattle.field.specs.Characteristic.{HasCharacteristic}
 use Rattle.field.specs.Distinct.{IsAmong}
 use Rattle.field.specs.Ring.{Ring, IsCommutativeRing, of_int, of_nat}

@@ -3,12 +3,12 @@ use Rattle.std.proofs.Common.{◌≡◌, ℕ, Bool, true, ◌&&◌, not, List, [
 use Rattle.std.proofs.lemmas.List.{map-append}
 use Rattle.std.specs.List.{AllByRecursion, flat_map, zip}
 use Rattle.std.specs.Option.{is_some, option_map, option_map_or}
-use Rattle.lists.proofs.Zips.{zip-append}
-use Rattle.lists.proofs.Each.{all_weaker, all_with}
-use Rattle.lists.proofs.Parts.{flat_same}
+use Rattle.list_laws.proofs.Zips.{zip-append}
+use Rattle.list_laws.proofs.Each.{all_weaker, all_with}
+use Rattle.list_laws.proofs.Parts.{flat_same}
 use Rattle.field.specs.Ring.{Ring}
-use Rattle.expressions.specs.Window.{Window}
-use Rattle.expressions.specs.declared.base_expression.SymbolicExpression.{SymbolicExpression}
+use Rattle.air_expressions.specs.Window.{Window}
+use Rattle.air_expressions.specs.declared.base_expression.SymbolicExpression.{SymbolicExpression}
 use Rattle.lookup_model.specs.Message.{Message}
 use Rattle.lookup_model.specs.Outline.{Outline, fields_of}
 use Rattle.lookup_model.specs.Sent.{branch_at, sent, sent_at, values}

@@ -8,14 +8,14 @@ use Rattle.std.proofs.lemmas.List.Sums.{sum_by-append, sum_by-cons}
 use Rattle.std.specs.List.{AllByRecursion, filter, filter_map, flat_map, range_with_len, sum_by, zip}
 use Rattle.std.specs.List.Sorted.{IsPermutation}
 use Rattle.std.specs.Option.{is_some, option_map_or, option_map}
-use Rattle.lists.proofs.Parts.{singles, map-flat_map}
-use Rattle.lists.proofs.Images.{filter_again, filter_all, filter_images, filter_none, sum_by-mapped}
-use Rattle.lists.proofs.Each.{all_weaker, filter_passes, all_of_map, all_kept, each_of, all_images}
+use Rattle.list_laws.proofs.Parts.{singles, map-flat_map}
+use Rattle.list_laws.proofs.Images.{filter_again, filter_all, filter_images, filter_none, sum_by-mapped}
+use Rattle.list_laws.proofs.Each.{all_weaker, filter_passes, all_of_map, all_kept, each_of, all_images}
 use Rattle.field.specs.Ring.{IsCommutativeRing, Ring}
 use Rattle.matrix.specs.Matrix.{height}
-use Rattle.expressions.specs.Window.{Window}
+use Rattle.air_expressions.specs.Window.{Window}
 use Rattle.air.specs.Traces.{AirTraces, window_of}
-use Rattle.expressions.specs.declared.base_expression.SymbolicExpression.{SymbolicExpression}
+use Rattle.air_expressions.specs.declared.base_expression.SymbolicExpression.{SymbolicExpression}
 use Rattle.lookup_model.proofs.Lookups.Regrouping.{first_seen_separate}
 use Rattle.lookup_model.specs.Message.{Key, Message, same_key}
 use Rattle.lookup_model.specs.Net.{net}

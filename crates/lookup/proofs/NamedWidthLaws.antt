@@ -7,9 +7,9 @@ use Rattle.std.specs.List.{flat_map}
 use Rattle.std.specs.Option.{option_map}
 use Rattle.std.specs.Ordering.{ord_max}
 use Rattle.std.specs.Map.{lookup}
-use Rattle.lists.proofs.Each.{all_both, all_weaker}
-use Rattle.lists.proofs.Items.{take_item}
-use Rattle.lists.proofs.Parts.{parts_next}
+use Rattle.list_laws.proofs.Each.{all_both, all_weaker}
+use Rattle.list_laws.proofs.Items.{take_item}
+use Rattle.list_laws.proofs.Parts.{parts_next}
 use Rattle.indexmap.specs.IndexMap.{insert_entry}
 use Rattle.lookup_model.specs.LookupDegree.{greatest}
 use Rattle.lookup_model.specs.declared.error.LookupError.{LookupError}

@@ -5,16 +5,16 @@ use Rattle.std.specs.Borrow.{Bor}
 use Rattle.std.specs.List.{AllZip, flat_map}
 use Rattle.std.specs.declared.alloc.Global.{Global}
 use Rattle.std.specs.declared.vec.Vec.{Vec}
-use Rattle.lists.proofs.Zips.{AllZip-map_left}
-use Rattle.lists.proofs.Images.{from_map, map-map, map_at, map_split}
-use Rattle.expressions.specs.Faults.{SplitsAtFault}
-use Rattle.expressions.specs.declared.base_expression.SymbolicExpression.{SymbolicExpression}
+use Rattle.list_laws.proofs.Zips.{AllZip-map_left}
+use Rattle.list_laws.proofs.Images.{from_map, map-map, map_at, map_split}
+use Rattle.air_expressions.specs.Faults.{SplitsAtFault}
+use Rattle.air_expressions.specs.declared.base_expression.SymbolicExpression.{SymbolicExpression}
 use Rattle.lookup_model.specs.Outline.{Outline, fields_of}
 use Rattle.lookup_model.specs.declared.error.LookupError.{LookupError}
 use Rattle.lookup_model.specs.declared.types.Lookup.{Lookup}
 use Rattle.lookup.specs.Buses.{bus_groups, bus_names, group_of, on_bus}
 use Rattle.std.proofs.lemmas.List.{append_assoc}
-use Rattle.lists.proofs.Items.{split_at, take_item}
+use Rattle.list_laws.proofs.Items.{split_at, take_item}
 use Rattle.lookup.specs.Packing.{IsFillRefusal, IsFilling, IsPacking, IsStuck, additive_lookups, joined_lookup, numbered_lookups, passing}
 
 -- an item at its index

@@ -7,7 +7,7 @@ use Rattle.std.specs.List.{AllByRecursion, cons_option, filter, filter_map, flat
 use Rattle.std.specs.List.Sorted.{IsPermutation}
 use Rattle.std.specs.Option.{is_some}
 use Rattle.lookup_model.proofs.Lookups.Regrouping.{Holds, IsSeparate, first_seen_holds}
-use Rattle.lookup_rows.proofs.NetEntries.{turned}
+use Rattle.lookup_messages.proofs.NetEntries.{turned}
 use Rattle.lookup_model.specs.Outline.{Outline}
 use Rattle.lookup.specs.Buses.{bus_names, on_bus}
 use Rattle.lookup_model.specs.Names.{is_named, same_name}

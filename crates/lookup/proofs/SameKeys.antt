@@ -9,7 +9,7 @@ use Rattle.lookup_model.proofs.Lookups.KeyLaws.{same_key-Decides}
 use Rattle.lookup_model.proofs.Lookups.Regrouping.{IsSeparate, IsSeparate-filter, first_seen_separate, same_self}
 use Rattle.lookup_model.specs.Message.{Key, Message, same_key}
 use Rattle.lookup_model.specs.Net.{keys, net, unbalanced_keys}
-use Rattle.lookup_rows.proofs.NetEntries.{any-first_seen, turned}
+use Rattle.lookup_messages.proofs.NetEntries.{any-first_seen, turned}
 use Rattle.lookup_model.specs.declared.types.Lookup.{Lookup}
 use Rattle.lookup.specs.KeptByPacking.{HaveSameKeys, KeepsKeys, KeepsMessages}
 use Rattle.lookup.proofs.KeptLaws.{net-permutation, trace_kept}

@@ -3,10 +3,10 @@ use Rattle.std.proofs.Common.{◌≡◌, ◌≢◌, ◌<◌, ◌+◌, ℕ, zero,
 use Rattle.std.proofs.lemmas.Bool.Decides.{Decides-eqb}
 use Rattle.std.specs.List.{AllByRecursion, flat_map}
 use Rattle.std.proofs.lemmas.List.Folds.{flat_map-map}
-use Rattle.lists.proofs.Images.{find-append, find-first}
-use Rattle.lists.proofs.Each.{all_joined, all_kept, all_parts, each_of}
-use Rattle.lists.proofs.Items.{first_stays}
-use Rattle.lists.proofs.Parts.{flat_next, flat_split, singles}
+use Rattle.list_laws.proofs.Images.{find-append, find-first}
+use Rattle.list_laws.proofs.Each.{all_joined, all_kept, all_parts, each_of}
+use Rattle.list_laws.proofs.Items.{first_stays}
+use Rattle.list_laws.proofs.Parts.{flat_next, flat_split, singles}
 use Rattle.lookup_model.specs.Names.{is_named}
 use Rattle.lookup_model.specs.Outline.{Outline}
 use Rattle.lookup.specs.Buses.{bus_names, on_bus}

@@ -1,11 +1,11 @@
 -- Lookups within a layout: those that are extracted from interactions within it, and packed ones.
 use Rattle.std.proofs.Common.{◌≡◌, ℕ, ◌+◌, List, [], ◌∷◌, ◌++◌, map, length, IfSome, All, subst, sym, arith, not, Result}
 use Rattle.std.proofs.lemmas.List.Elements.{All-append, All-cons, All-head, All-map, All-nil, All-tail, All-weaker, All-from_recursion, recursion_from_All}
-use Rattle.lists.proofs.Each.{All-of_map, all_both, all_joined, all_kept, all_weaker}
-use Rattle.expressions.specs.Layout.{Fits}
-use Rattle.expressions.specs.Tree.{tree_of}
-use Rattle.expressions.specs.declared.base_expression.SymbolicExpression.{SymbolicExpression}
-use Rattle.expressions.specs.declared.layout.AirLayout.{AirLayout}
+use Rattle.list_laws.proofs.Each.{All-of_map, all_both, all_joined, all_kept, all_weaker}
+use Rattle.air_expressions.specs.Layout.{Fits}
+use Rattle.air_expressions.specs.Tree.{tree_of}
+use Rattle.air_expressions.specs.declared.base_expression.SymbolicExpression.{SymbolicExpression}
+use Rattle.air_expressions.specs.declared.layout.AirLayout.{AirLayout}
 use Rattle.lookup_model.specs.Outline.{Outline, fields_of}
 use Rattle.lookup_model.specs.Records.{AllFit, AreRecords, IsWithin, LookupsFit}
 use Rattle.lookup_model.specs.declared.types.Lookup.{Lookup}

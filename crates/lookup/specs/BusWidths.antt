@@ -1,7 +1,7 @@
 -- One width for all tuples of a bus.
 use Rattle.std.specs.Prelude.{◌≡◌, ℕ, List, [], ◌∷◌, ◌++◌, codes, length, map}
 use Rattle.std.specs.List.{AllByRecursion, flat_map}
-use Rattle.expressions.specs.Faults.{SplitsAtFault}
+use Rattle.air_expressions.specs.Faults.{SplitsAtFault}
 use Rattle.lookup_model.specs.Outline.{Outline}
 use Rattle.lookup_model.specs.declared.error.LookupError.{LookupError}
 use Rattle.lookup.specs.Buses.{bus_names, on_bus}

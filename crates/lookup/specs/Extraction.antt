@@ -1,9 +1,9 @@
 -- The lookups that are extracted from an AIR's records.
 use Rattle.std.specs.Prelude.{◌≡◌, ◌+◌, ◌<◌, ◌≤◌, ◌⊎◌, ℕ, List, [], ◌∷◌, ◌++◌, length, map, None, Some, All, Result, Ok, Err, MatchResult}
 use Rattle.std.specs.List.{enumerate_from, sum_by}
-use Rattle.expressions.specs.Faults.{SplitsAtFault}
-use Rattle.expressions.specs.declared.error.AirError.{AirError}
-use Rattle.expressions.specs.declared.layout.AirLayout.{AirLayout}
+use Rattle.air_expressions.specs.Faults.{SplitsAtFault}
+use Rattle.air_expressions.specs.declared.error.AirError.{AirError}
+use Rattle.air_expressions.specs.declared.layout.AirLayout.{AirLayout}
 use Rattle.lookup_model.specs.LookupDegree.{greatest}
 use Rattle.lookup_model.specs.Outline.{Outline, fields_of}
 use Rattle.lookup_model.specs.Refusal.{from_air}

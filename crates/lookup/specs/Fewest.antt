@@ -1,7 +1,7 @@
 -- Fewest columns: no consecutive split of a bus has fewer.
 use Rattle.std.specs.Prelude.{◌≡◌, ◌<◌, ◌≤◌, ◌^◌, ◌⊎◌, ℕ, List, [], length, Result, IfOk}
 use Rattle.std.specs.List.{AllByRecursion}
-use Rattle.expressions.specs.declared.base_expression.SymbolicExpression.{SymbolicExpression}
+use Rattle.air_expressions.specs.declared.base_expression.SymbolicExpression.{SymbolicExpression}
 use Rattle.lookup_model.specs.LookupDegree.{IsDegree, outline_degree}
 use Rattle.lookup_model.specs.Outline.{Outline}
 use Rattle.lookup_model.specs.declared.error.LookupError.{LookupError}

@@ -4,7 +4,7 @@ use Rattle.std.specs.Prelude.{◌≡◌, ℕ, Bool, List, Option, None, Some, le
 use Rattle.std.specs.List.{AllByRecursion, filter, flat_map, sum_by}
 use Rattle.std.specs.List.Sorted.{IsPermutation}
 use Rattle.field.specs.Ring.{Ring}
-use Rattle.expressions.specs.Window.{Window}
+use Rattle.air_expressions.specs.Window.{Window}
 use Rattle.air.specs.Traces.{AirTraces}
 use Rattle.field.specs.Extension.{Extension}
 use Rattle.lookup_model.specs.Batches.Messages.{HasLawfulFlags}

@@ -1,6 +1,6 @@
 -- What contracts see of the lookups of one AIR.
 use Rattle.std.specs.Prelude.{List}
-use Rattle.expressions.specs.declared.layout.AirLayout.{AirLayout}
+use Rattle.air_expressions.specs.declared.layout.AirLayout.{AirLayout}
 use Rattle.lookup_model.specs.Records.{LookupsFit}
 use Rattle.lookup_model.specs.declared.types.Lookup.{Lookup}
 use Rattle.lookup.specs.declared.lookups.Lookups.{Lookups}

@@ -2,7 +2,7 @@
 use Rattle.std.specs.Prelude.{◌≡◌, ◌<◌, ◌≤◌, ◌+◌, ◌⊎◌, ◌&&◌, ℕ, Bool, not, List, [], ◌∷◌, ◌++◌, map, Result, Ok, Err, MatchResult}
 use Rattle.std.specs.List.{AllZip, enumerate_from, filter, flat_map, sum_by}
 use Rattle.std.specs.Option.{is_some}
-use Rattle.expressions.specs.Faults.{SplitsAtFault}
+use Rattle.air_expressions.specs.Faults.{SplitsAtFault}
 use Rattle.lookup_model.specs.Outline.{Outline}
 use Rattle.lookup_model.specs.Weight.{weight_bound}
 use Rattle.lookup_model.specs.declared.error.LookupError.{LookupError}

@@ -1,6 +1,6 @@
 -- What evaluation asks of a builder.
 use Rattle.std.specs.Prelude.{◌*◌, ◌<◌, ◌≤◌, ℕ}
-use Rattle.expressions.specs.declared.layout.AirLayout.{AirLayout}
+use Rattle.air_expressions.specs.declared.layout.AirLayout.{AirLayout}
 
 -- A builder of this layout has room for so many lookups: two challenges for each of them. If there are
 -- any, it has one cell more than there are lookups, and a permutation value.

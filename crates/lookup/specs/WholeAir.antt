@@ -1,6 +1,6 @@
 -- The evaluation of an AIR with its lookups.
 use Rattle.std.specs.Prelude.{◌≡◌, ◌⊎◌, Result, Ok, Err}
-use Rattle.expressions.specs.declared.error.AirError.{AirError}
+use Rattle.air_expressions.specs.declared.error.AirError.{AirError}
 
 -- The AIR comes first, by its own relation. Either it refuses, and the builder is left as it left it;
 -- or there is a builder that it has left, and the evaluation goes on from there to the answer.

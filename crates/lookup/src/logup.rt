@@ -11,8 +11,8 @@ ghost use Rattle.lookup_model.specs.Terminals.{terminal_sum, terminal_value};
 use crate::protocol::LookupProtocol;
 use air::{AirBuilder, AirError, ExtensionBuilder, PermutationAirBuilder, Traces};
 use field::{ExtensionDomain, ExtensionField, Field, Inverter};
+use lookup_messages::LookupTraceBuilder;
 use lookup_model::{Lookup, LookupError, LookupTerminal};
-use lookup_rows::LookupTraceBuilder;
 use matrix::RowMajorMatrix;
 use std::alloc::Global;
 
@@ -120,7 +120,7 @@ impl LookupProtocol for LogUpGadget {
         builder: &mut AB,
         lookup: &Lookup<AB::F>,
     ) -> Result<(), AirError> {
-        lookup_evaluation::eval_fraction(alloc, builder, lookup)
+        lookup_constraints::eval_fraction(alloc, builder, lookup)
     }
 
     fn eval_accumulator<AB: PermutationAirBuilder>(
@@ -130,7 +130,7 @@ impl LookupProtocol for LogUpGadget {
         lookups: &[Lookup<AB::F>],
         terminal: AB::ExprEF,
     ) -> Result<(), AirError> {
-        lookup_evaluation::eval_accumulator(alloc, builder, lookups, terminal)
+        lookup_constraints::eval_accumulator(alloc, builder, lookups, terminal)
     }
 
     fn constraint_degree<F>(&self, lookup: &Lookup<F>) -> Result<usize, LookupError> {

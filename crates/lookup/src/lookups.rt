@@ -1,7 +1,7 @@
 //! The lookups of one AIR.
 ghost use Rattle.std.specs.Prelude.{◌≡◌, ◌↔◌, ℕ, IfOk, IsTrue, MatchResult, map, ⊤};
 ghost use Rattle.std.specs.List.{sum_by};
-ghost use Rattle.expressions.specs.Layout.{layout_of_widths};
+ghost use Rattle.air_expressions.specs.Layout.{layout_of_widths};
 ghost use Rattle.serde.specs.Event.{WritesSeq};
 ghost use Rattle.lookup_model.specs.Outline.{outline_of};
 ghost use Rattle.lookup_model.specs.Records.{AreRecords, IsFirstMalformed, LookupsFit};

@@ -2,8 +2,8 @@
 ghost use Rattle.std.specs.Prelude.{◌≡◌, ◌≢◌, ◌+◌, ◌*◌, ◌≤◌, ◌<◌, [], ◌∷◌, All, MatchResult, length};
 ghost use Rattle.std.specs.Option.{ForSome, option_copied};
 ghost use Rattle.air.specs.Traces.{air_traces};
-ghost use Rattle.expressions.specs.Layout.{layout_of_traces};
-ghost use Rattle.lookup_evaluation.specs.Asserted.{EvaluatesOn};
+ghost use Rattle.air_expressions.specs.Layout.{layout_of_traces};
+ghost use Rattle.lookup_constraints.specs.Asserted.{EvaluatesOn};
 ghost use Rattle.lookup_model.specs.Constraints.{accumulator_constraints, fraction_constraint, lookup_constraints};
 ghost use Rattle.lookup_model.specs.LookupDegree.{IsDegree, lookup_degree};
 ghost use Rattle.lookup_model.specs.Records.{HasEqualLengths, IsWithin, LookupsFit};

@@ -2,7 +2,7 @@
 use Rattle.std.specs.Prelude.{◌≡◌, List, map}
 use Rattle.std.specs.List.{zip}
 use Rattle.std.proofs.Common.{ap, ◌∙◌}
-use Rattle.lists.proofs.Zips.{zip_of_maps}
+use Rattle.list_laws.proofs.Zips.{zip_of_maps}
 
 -- the same, of lists that are these maps
 pub map_of_two : {A B C X : Type 0} (f : A → B → C) (g : X → A) (h : X → B) (xs : List X) {ls : List A} {rs : List B} {v : List C}

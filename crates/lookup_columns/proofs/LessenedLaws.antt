@@ -7,12 +7,12 @@ use Rattle.std.specs.List.{zip}
 use Rattle.field.specs.Polynomial.{value_at}
 use Rattle.field.specs.Ring.{Ring, IsCommutativeRing, power, sub_in}
 use Rattle.field.specs.laws.RingSolver.{var, con, ◌:+◌, ◌:-◌, ◌:*◌, ring_law}
-use Rattle.expressions.specs.Window.{Window}
-use Rattle.expressions.specs.declared.base_expression.SymbolicExpression.{SymbolicExpression}
+use Rattle.air_expressions.specs.Window.{Window}
+use Rattle.air_expressions.specs.declared.base_expression.SymbolicExpression.{SymbolicExpression}
 use Rattle.lookup_model.proofs.Coefficients.{value_at-push}
 use Rattle.lookup_model.specs.Sent.{value, values}
 use Rattle.lookup_columns.specs.Columns.{tuple_denominator_at, tuple_denominators}
-use Rattle.lists.proofs.Images.{map-map}
+use Rattle.list_laws.proofs.Images.{map-map}
 use Rattle.lookup_columns.proofs.ColumnLaws.{map_of_two}
 
 module _ {F K : Type 0} (R : Ring F) {S : Ring K} (laws : IsCommutativeRing S) (embed : F → K) (alpha beta : K) where

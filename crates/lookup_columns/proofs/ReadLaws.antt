@@ -1,7 +1,7 @@
 -- What is read from the columns of an exclusive lookup.
 use Rattle.std.proofs.Common.{◌≡◌, ◌≢◌, ◌<◌, ℕ, Some, List, length, get_or, ap, subst, ◌∙◌}
 use Rattle.std.proofs.lemmas.Option.{slice_get_within}
-use Rattle.lists.proofs.Items.{read_is}
+use Rattle.list_laws.proofs.Items.{read_is}
 use Rattle.field.specs.Ring.{Ring}
 use Rattle.lookup_columns.proofs.ZipLaws.{Beside, beside}
 use Rattle.lookup_columns.specs.ChunkColumns.{HasFlag, StoreSelected, IsStored, IsStoredIfSet, IsStoredSelected}

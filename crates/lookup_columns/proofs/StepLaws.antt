@@ -4,15 +4,15 @@ use Rattle.std.proofs.lemmas.List.Elements.{All-append, All-cons, All-head, All-
 use Rattle.std.specs.List.{AllZip}
 use Rattle.std.specs.declared.alloc.Global.{Global}
 use Rattle.std.specs.declared.vec.Vec.{Vec}
-use Rattle.lists.proofs.Zips.{zip_of_maps}
-use Rattle.lists.proofs.Images.{map-map}
+use Rattle.list_laws.proofs.Zips.{zip_of_maps}
+use Rattle.list_laws.proofs.Images.{map-map}
 use Rattle.field.specs.Ring.{Ring, sub_in}
-use Rattle.expressions.specs.Layout.{Fits}
-use Rattle.expressions.specs.Meaning.{value_of}
-use Rattle.expressions.specs.Tree.{Tree, leaf, add, sub, mul, neg, tree_of}
-use Rattle.expressions.specs.Window.{Window}
-use Rattle.expressions.specs.declared.base_expression.SymbolicExpression.{SymbolicExpression}
-use Rattle.expressions.specs.declared.layout.AirLayout.{AirLayout}
+use Rattle.air_expressions.specs.Layout.{Fits}
+use Rattle.air_expressions.specs.Meaning.{value_of}
+use Rattle.air_expressions.specs.Tree.{Tree, leaf, add, sub, mul, neg, tree_of}
+use Rattle.air_expressions.specs.Window.{Window}
+use Rattle.air_expressions.specs.declared.base_expression.SymbolicExpression.{SymbolicExpression}
+use Rattle.air_expressions.specs.declared.layout.AirLayout.{AirLayout}
 use Rattle.lookup_columns.specs.Columns.{column}
 use Rattle.lookup_columns.specs.Steps.{AreStepsOf, StepFits, StepsFit, steps_in_order}
 use Rattle.lookup_columns.specs.declared.step.Step.{Step}

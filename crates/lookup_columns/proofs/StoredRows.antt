@@ -5,9 +5,9 @@ use Rattle.std.proofs.lemmas.Slice.Zip.{AllZip-long}
 use Rattle.std.specs.List.{AllZip, range_with_len, zip}
 use Rattle.std.specs.declared.alloc.Global.{Global}
 use Rattle.std.specs.declared.vec.Vec.{Vec}
-use Rattle.lists.proofs.Items.{range_at}
-use Rattle.lists.proofs.Zips.{AllZip-both_at}
-use Rattle.expressions.specs.Window.{Window}
+use Rattle.list_laws.proofs.Items.{range_at}
+use Rattle.list_laws.proofs.Zips.{AllZip-both_at}
+use Rattle.air_expressions.specs.Window.{Window}
 use Rattle.field.specs.Ring.{Ring}
 use Rattle.lookup_columns.proofs.ChunkColumnLaws.{zip_weaker}
 use Rattle.lookup_columns.specs.ChunkColumns.{AreColumns, AreLookupColumns, StoreLookup}

@@ -1,11 +1,11 @@
 -- Columns: what expressions and tuples give on some rows of the traces of an AIR.
 use Rattle.std.specs.Prelude.{ℕ, List, map}
 use Rattle.field.specs.Ring.{Ring}
-use Rattle.expressions.specs.Meaning.{leaf_value, value_of}
-use Rattle.expressions.specs.Tree.{Tree}
-use Rattle.expressions.specs.Window.{Window}
-use Rattle.expressions.specs.declared.base_expression.BaseLeaf.{BaseLeaf}
-use Rattle.expressions.specs.declared.base_expression.SymbolicExpression.{SymbolicExpression}
+use Rattle.air_expressions.specs.Meaning.{leaf_value, value_of}
+use Rattle.air_expressions.specs.Tree.{Tree}
+use Rattle.air_expressions.specs.Window.{Window}
+use Rattle.air_expressions.specs.declared.base_expression.BaseLeaf.{BaseLeaf}
+use Rattle.air_expressions.specs.declared.base_expression.SymbolicExpression.{SymbolicExpression}
 use Rattle.lookup_model.specs.Denominators.{tuple_denominator_over}
 use Rattle.lookup_model.specs.Sent.{values}
 

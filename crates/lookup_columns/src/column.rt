@@ -2,9 +2,9 @@
 ghost use Rattle.std.specs.Prelude.{◌≡◌, ◌<◌, ◌≤◌, ◌+◌, ◌%◌, ◌∷◌, ◌++◌, ◌==◌, All, IfOk, OnOk, map, not, slice_index_or};
 ghost use Rattle.std.specs.List.{zip};
 ghost use Rattle.field.specs.Ring.{of_bool, sub_in};
-ghost use Rattle.expressions.specs.Layout.{LeafFits};
-ghost use Rattle.expressions.specs.Meaning.{row_at};
-ghost use Rattle.expressions.specs.Tree.{Tree};
+ghost use Rattle.air_expressions.specs.Layout.{LeafFits};
+ghost use Rattle.air_expressions.specs.Meaning.{row_at};
+ghost use Rattle.air_expressions.specs.Tree.{Tree};
 ghost use Rattle.lookup_columns.specs.Columns.{column, leaf_column};
 ghost use Rattle.lookup_columns.specs.Slots.{filled_slots};
 ghost use Rattle.lookup_columns.specs.Steps.{StepFits, steps_in_order};

@@ -2,7 +2,7 @@
 ghost use Rattle.std.specs.Prelude.{◌≡◌, ◌<◌, ◌-◌, ◌++◌, All, IfOk, List, OnOk, drop, length, map};
 ghost use Rattle.std.specs.List.{AllZip, zip};
 ghost use Rattle.field.specs.Ring.{sub_in};
-ghost use Rattle.expressions.specs.declared.base_expression.SymbolicExpression.{SymbolicExpression};
+ghost use Rattle.air_expressions.specs.declared.base_expression.SymbolicExpression.{SymbolicExpression};
 ghost use Rattle.lookup_columns.specs.Columns.{tuple_denominators};
 ghost use Rattle.lookup_columns.specs.Steps.{AreStepsOf, StepsFit};
 ghost use Rattle.air.specs.Traces.{height_of, layout_of, traces_of, window_of};
@@ -77,7 +77,7 @@ fn last_denominators<F: Field, EF: ExtensionDomain<F>>(
 /// row of the last one is the first one. The lists that are filled have room for all rows of `inputs`.
 /// The one that is returned can be put away in `memory` after use. Fails only when out of memory.
 ///
-/// Constraints combine tuples as expressions of a builder, in `lookup_evaluation`.
+/// Constraints combine tuples as expressions of a builder, in `lookup_constraints`.
 pub fn denominators_of<F: Field, EF: ExtensionDomain<F>>(
     alloc: Global,
     memory: &mut ColumnMemory<F, EF>,

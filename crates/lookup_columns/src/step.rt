@@ -1,9 +1,9 @@
 //! Expressions as lists of steps.
 ghost use Rattle.std.specs.Prelude.{◌≡◌, ◌++◌, All, IfOk, OnOk};
 ghost use Rattle.std.specs.List.{AllZip};
-ghost use Rattle.expressions.specs.Layout.{Fits};
-ghost use Rattle.expressions.specs.Tree.{tree_of};
-ghost use Rattle.expressions.specs.declared.layout.AirLayout.{AirLayout};
+ghost use Rattle.air_expressions.specs.Layout.{Fits};
+ghost use Rattle.air_expressions.specs.Tree.{tree_of};
+ghost use Rattle.air_expressions.specs.declared.layout.AirLayout.{AirLayout};
 ghost use Rattle.lookup_columns.specs.Steps.{AreStepsOf, StepsFit, steps_in_order};
 ghost use Rattle.lookup_model.specs.Records.{AllFit};
 

@@ -7,13 +7,13 @@ use Rattle.std.specs.List.{flat_map, range_with_len}
 use Rattle.std.specs.Option.{ForSome, option_map}
 use Rattle.std.specs.declared.alloc.Global.{Global}
 use Rattle.std.specs.declared.vec.Vec.{Vec}
-use Rattle.lists.proofs.Parts.{flat_more}
-use Rattle.lists.proofs.Images.{mapped_at}
-use Rattle.lists.proofs.Items.{item_at, item_there}
-use Rattle.lists.proofs.Zips.{length-zipped, zipped_at, zipped_more}
+use Rattle.list_laws.proofs.Parts.{flat_more}
+use Rattle.list_laws.proofs.Images.{mapped_at}
+use Rattle.list_laws.proofs.Items.{item_at, item_there}
+use Rattle.list_laws.proofs.Zips.{length-zipped, zipped_at, zipped_more}
 use Rattle.air.specs.Traces.{window_of}
-use Rattle.expressions.specs.Window.{Window}
-use Rattle.expressions.specs.declared.base_expression.SymbolicExpression.{SymbolicExpression}
+use Rattle.air_expressions.specs.Window.{Window}
+use Rattle.air_expressions.specs.declared.base_expression.SymbolicExpression.{SymbolicExpression}
 use Rattle.field.specs.Ring.{Ring}
 use Rattle.lookup_model.proofs.Branches.{length-branches_at}
 use Rattle.lookup_model.specs.Message.{Message}

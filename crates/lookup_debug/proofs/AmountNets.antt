@@ -5,14 +5,14 @@ use Rattle.std.proofs.lemmas.Slice.Eq.{slice_eq-Decides}
 use Rattle.std.specs.Cmp.Lexicographic.{pointwise}
 use Rattle.std.specs.List.{AllByRecursion, filter, list_any}
 use Rattle.std.specs.Map.{lookup}
-use Rattle.lists.proofs.Each.{all_weaker}
-use Rattle.lists.proofs.Images.{filter_all, filter_images, map-map}
+use Rattle.list_laws.proofs.Each.{all_weaker}
+use Rattle.list_laws.proofs.Images.{filter_all, filter_images, map-map}
 use Rattle.indexmap.specs.IndexMap.{insert_entry}
 use Rattle.field.specs.Ring.{Ring, IsCommutativeRing}
 use Rattle.field.specs.Sums.{sum_in}
 use Rattle.lookup_model.specs.Net.{first_seen}
 use Rattle.lookup_model.proofs.Lookups.Regrouping.{IsSeparate, first_seen_separate}
-use Rattle.lookup_rows.proofs.NetEntries.{agree, entries-push, net-lookup, net-none, net_in, turned}
+use Rattle.lookup_messages.proofs.NetEntries.{agree, entries-push, net-lookup, net-none, net_in, turned}
 use Rattle.lookup_debug.specs.Contributions.{Contribution}
 use Rattle.lookup_debug.specs.Mismatch.{net_amount}
 use Rattle.lookup_debug.specs.internal.Appended.{without_location}

@@ -5,10 +5,10 @@ use Rattle.std.proofs.lemmas.Option.{slice_get-get_or}
 use Rattle.std.proofs.lemmas.Slice.Eq.{slice_eq-Decides}
 use Rattle.std.specs.Cmp.Lexicographic.{pointwise}
 use Rattle.std.specs.List.{All, AllByRecursion, filter, list_any}
-use Rattle.lists.proofs.Each.{All-there, all_there, each_of}
-use Rattle.lists.proofs.Images.{filter_none, from_map, map_at}
+use Rattle.list_laws.proofs.Each.{All-there, all_there, each_of}
+use Rattle.list_laws.proofs.Images.{filter_none, from_map, map_at}
 use Rattle.field.specs.Ring.{Ring, IsCommutativeRing}
-use Rattle.lookup_rows.proofs.NetEntries.{any-first_seen, net-none}
+use Rattle.lookup_messages.proofs.NetEntries.{any-first_seen, net-none}
 use Rattle.lookup_debug.specs.BusTable.{GroupRow, distinct_tuples, group_row, row_of, unbalanced_tuples}
 use Rattle.lookup_debug.specs.Contributions.{Contribution}
 use Rattle.lookup_debug.specs.Groups.{Group}

@@ -6,17 +6,17 @@ use Rattle.std.specs.Borrow.{Bor}
 use Rattle.std.specs.List.{cons_option, filter_map, list_any, enumerate_from, filter, flat_map}
 use Rattle.std.proofs.lemmas.Grind.{flat_map-append}
 use Rattle.std.proofs.lemmas.List.FromFn.{length-enumerate_from}
-use Rattle.lists.proofs.Items.{take_item, numbered_read, numbered_within}
-use Rattle.lists.proofs.Parts.{flat_next}
-use Rattle.lists.proofs.Images.{mapped_more}
+use Rattle.list_laws.proofs.Items.{take_item, numbered_read, numbered_within}
+use Rattle.list_laws.proofs.Parts.{flat_next}
+use Rattle.list_laws.proofs.Images.{mapped_more}
 use Rattle.field.specs.Ring.{Ring}
 use Rattle.lookup_model.specs.Names.{same_name, is_named}
 use Rattle.lookup_model.specs.Net.{first_seen}
 use Rattle.lookup_model.specs.Outline.{bus_of}
 use Rattle.lookup_model.specs.declared.types.Lookup.{Lookup}
 use Rattle.lookup_model.proofs.Names.{same_name-Decides}
-use Rattle.lookup_rows.proofs.FirstSeen.{first_seen-push}
-use Rattle.lookup_rows.proofs.NetEntries.{any-first_seen, turned}
+use Rattle.lookup_messages.proofs.FirstSeen.{first_seen-push}
+use Rattle.lookup_messages.proofs.NetEntries.{any-first_seen, turned}
 use Rattle.lookup_debug.specs.Contributions.{Contribution, Traced, contributions_of}
 use Rattle.lookup_debug.specs.Groups.{LookupAt, is_on, lookup_contributions, lookups_in}
 use Rattle.lookup_debug.specs.internal.Walks.{IsWalk}

@@ -9,11 +9,11 @@ use Rattle.std.specs.Cmp.Lexicographic.{lists_total, nat_list_cmp_total, pointwi
 use Rattle.std.specs.List.{filter, list_any}
 use Rattle.std.proofs.lemmas.Option.{slice_get_within}
 use Rattle.std.proofs.lemmas.Slice.Eq.{slice_eq-Decides}
-use Rattle.lists.proofs.Items.{holds_at_next, holds_next, some_is}
-use Rattle.lists.proofs.Images.{map_at, from_map}
+use Rattle.list_laws.proofs.Items.{holds_at_next, holds_next, some_is}
+use Rattle.list_laws.proofs.Images.{map_at, from_map}
 use Rattle.field.specs.Ring.{Ring, IsCommutativeRing}
 use Rattle.lookup_model.specs.Net.{first_seen}
-use Rattle.lookup_rows.proofs.NetEntries.{any-first_seen, net-none}
+use Rattle.lookup_messages.proofs.NetEntries.{any-first_seen, net-none}
 use Rattle.lookup_debug.specs.Mismatch.{text_cmp, Precedes, IsFirst, net_amount}
 use Rattle.lookup_debug.specs.internal.Least.{IsLeast, NonePasses}
 use Rattle.lookup_debug.specs.internal.Nets.{IsFirstIndex, tuple_entries}

@@ -7,12 +7,12 @@ use Rattle.std.proofs.lemmas.List.{map-append, take_all}
 use Rattle.std.proofs.lemmas.List.Elements.{filter-append}
 use Rattle.std.proofs.lemmas.List.Concat.{flat_map_single}
 use Rattle.std.proofs.lemmas.List.FromFn.{length-enumerate_from}
-use Rattle.lists.proofs.Each.{all_both, all_indexed, all_there}
-use Rattle.lists.proofs.Items.{item_there, numbered_there}
-use Rattle.lists.proofs.Parts.{flat_next, flat_split}
-use Rattle.lists.proofs.Images.{map-map}
+use Rattle.list_laws.proofs.Each.{all_both, all_indexed, all_there}
+use Rattle.list_laws.proofs.Items.{item_there, numbered_there}
+use Rattle.list_laws.proofs.Parts.{flat_next, flat_split}
+use Rattle.list_laws.proofs.Images.{map-map}
 use Rattle.field.specs.Ring.{Ring}
-use Rattle.expressions.proofs.FirstFaults.{fault_here, fault_later, fault_sooner}
+use Rattle.air_expressions.proofs.FirstFaults.{fault_here, fault_later, fault_sooner}
 use Rattle.lookup_model.specs.Outline.{bus_of}
 use Rattle.lookup_model.specs.declared.types.Lookup.{Lookup}
 use Rattle.lookup_debug.specs.Contributions.{Contribution, Traced, contributions_of, traced_of}

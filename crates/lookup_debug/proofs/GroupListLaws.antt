@@ -6,9 +6,9 @@ use Rattle.std.proofs.lemmas.List.FromFn.{length-enumerate_from}
 use Rattle.std.proofs.lemmas.Option.{get_or_from_slice_get, slice_get_within}
 use Rattle.std.specs.Borrow.{Bor}
 use Rattle.std.specs.List.{All, enumerate_from, flat_map}
-use Rattle.lists.proofs.Images.{images_more}
-use Rattle.lists.proofs.Items.{numbered_there}
-use Rattle.lists.proofs.Parts.{flat_next}
+use Rattle.list_laws.proofs.Images.{images_more}
+use Rattle.list_laws.proofs.Items.{numbered_there}
+use Rattle.list_laws.proofs.Parts.{flat_next}
 use Rattle.field.specs.Ring.{Ring}
 use Rattle.lookup_model.specs.Outline.{bus_of}
 use Rattle.lookup_model.specs.declared.types.Lookup.{Lookup}

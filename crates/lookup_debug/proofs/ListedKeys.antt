@@ -6,8 +6,8 @@ use Rattle.std.proofs.lemmas.Map.Keys.{apart_from_distinct}
 use Rattle.std.proofs.lemmas.Option.{slice_get_read, slice_get_within, get_or_from_slice_get}
 use Rattle.std.specs.List.{IsDistinct}
 use Rattle.std.specs.Map.{lookup}
-use Rattle.lists.proofs.Items.{some_is}
-use Rattle.lookup_rows.proofs.NetEntries.{turned}
+use Rattle.list_laws.proofs.Items.{some_is}
+use Rattle.lookup_messages.proofs.NetEntries.{turned}
 use Rattle.lookup_debug.proofs.FirstMismatch.{three_ways}
 
 module _ {K L B : Type 0} (kept : L → B) (f g : K → B) where

@@ -7,8 +7,8 @@ use Rattle.std.specs.Borrow.{Bor}
 use Rattle.std.specs.Cmp.Lexicographic.{pointwise}
 use Rattle.std.specs.List.{IsDistinct}
 use Rattle.std.specs.Map.{lookup}
-use Rattle.lists.proofs.Images.{from_map, map_at}
-use Rattle.lists.proofs.Items.{some_is}
+use Rattle.list_laws.proofs.Images.{from_map, map_at}
+use Rattle.list_laws.proofs.Items.{some_is}
 use Rattle.field.specs.Ring.{Ring}
 use Rattle.lookup_debug.specs.BusTable.{TupleEntry, saturated_usize, entry_of, tuple_places}
 use Rattle.lookup_debug.specs.Contributions.{Contribution, SentLocation}

@@ -3,7 +3,7 @@ use Rattle.std.proofs.Common.{◌≡◌, Bool, List, ℕ, length, map, not, refl
 use Rattle.std.proofs.lemmas.List.{length-map, take-map}
 use Rattle.std.specs.Borrow.{Bor}
 use Rattle.std.specs.List.{filter}
-use Rattle.lists.proofs.Images.{filter_images, map-map}
+use Rattle.list_laws.proofs.Images.{filter_images, map-map}
 use Rattle.field.specs.Ring.{Ring}
 use Rattle.lookup_debug.specs.BusTable.{TupleEntry, saturated_usize, tuple_entry, tuple_places}
 use Rattle.lookup_debug.specs.Contributions.{Contribution}

@@ -7,9 +7,9 @@ use Rattle.std.proofs.lemmas.Slice.Eq.{slice_eq-Decides}
 use Rattle.std.specs.Borrow.{Bor}
 use Rattle.std.specs.Cmp.Lexicographic.{pointwise}
 use Rattle.std.specs.Map.{lookup}
-use Rattle.lists.proofs.Images.{images_more}
+use Rattle.list_laws.proofs.Images.{images_more}
 use Rattle.field.specs.Ring.{Ring, IsCommutativeRing}
-use Rattle.lookup_rows.proofs.NetEntries.{one_more}
+use Rattle.lookup_messages.proofs.NetEntries.{one_more}
 use Rattle.lookup_debug.specs.internal.Appended.{Appends, without_location}
 use Rattle.lookup_debug.specs.internal.Arena.{AreWithin, amounts_in, span_amount}
 use Rattle.lookup_debug.specs.Contributions.{Contribution}

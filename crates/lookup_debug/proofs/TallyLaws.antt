@@ -2,7 +2,7 @@
 use Rattle.std.proofs.Common.{◌≡◌, ◌++◌, ◌+◌, ◌≤◌, List, ℕ, drop, length, length-append, map, sym, zero-add, ap, ◌∙◌, arith}
 use Rattle.std.proofs.Math.Seq.{drop-append_seam}
 use Rattle.std.proofs.lemmas.List.{drop-map, length-map, map-append}
-use Rattle.lists.proofs.Images.{map-map}
+use Rattle.list_laws.proofs.Images.{map-map}
 use Rattle.lookup_debug.specs.BusTable.{saturated_usize}
 use Rattle.lookup_debug.specs.Contributions.{Contribution}
 use Rattle.lookup_debug.specs.declared.arena.Contributions.{Contributions}

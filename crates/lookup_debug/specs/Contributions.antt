@@ -3,7 +3,7 @@ use Rattle.std.specs.Prelude.{ℕ, All, Bool, List, Option, None, Some, map, not
 use Rattle.std.specs.List.{filter, flat_map, range_with_len, zip}
 use Rattle.std.specs.Option.{option_copied}
 use Rattle.field.specs.Ring.{Ring}
-use Rattle.expressions.specs.Window.{Window}
+use Rattle.air_expressions.specs.Window.{Window}
 use Rattle.air.specs.Traces.{AirTraces, HaveOneHeight, air_traces, height_of, layout_of, window_of}
 use Rattle.lookup_model.specs.Message.{Message}
 use Rattle.lookup_model.specs.Records.{LookupsFit}

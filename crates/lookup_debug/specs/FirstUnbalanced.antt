@@ -1,6 +1,6 @@
 -- The first mismatch as data.
 use Rattle.std.specs.Prelude.{◌≡◌, ℕ, Bool, List}
-use Rattle.expressions.specs.Faults.{HasFirstFault}
+use Rattle.air_expressions.specs.Faults.{HasFirstFault}
 use Rattle.field.specs.Ring.{Ring}
 use Rattle.lookup_debug.specs.BusTable.{entry_of, label_of, tuple_entry}
 use Rattle.lookup_debug.specs.Contributions.{Contribution, Traced}

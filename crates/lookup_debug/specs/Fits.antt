@@ -3,16 +3,16 @@ use Rattle.std.specs.Prelude.{◌≡◌, ◌≢◌, ◌≤◌, ◌⊎◌, ℕ, A
 use Rattle.std.specs.declared.alloc.Global.{Global}
 use Rattle.std.specs.declared.vec.Vec.{Vec}
 use Rattle.air.specs.Traces.{AirTraces, HaveOneHeight, layout_of}
-use Rattle.expressions.specs.Faults.{HasFirstFault}
-use Rattle.expressions.specs.Layout.{EntryFits, Fits}
-use Rattle.expressions.specs.Tree.{Tree, add, leaf, mul, neg, sub, tree_of}
-use Rattle.expressions.specs.declared.base_expression.BaseLeaf.{BaseLeaf}
-use Rattle.expressions.specs.declared.base_expression.BaseLeaf.TheVariants.{Variable as OfVariable}
-use Rattle.expressions.specs.declared.base_expression.SymbolicExpression.{SymbolicExpression}
-use Rattle.expressions.specs.declared.layout.AirLayout.{AirLayout}
-use Rattle.expressions.specs.declared.variable.BaseEntry.{BaseEntry}
-use Rattle.expressions.specs.declared.variable.BaseEntry.TheVariants.{Main, Preprocessed, Public}
-use Rattle.expressions.specs.declared.variable.SymbolicVariable.{SymbolicVariable}
+use Rattle.air_expressions.specs.Faults.{HasFirstFault}
+use Rattle.air_expressions.specs.Layout.{EntryFits, Fits}
+use Rattle.air_expressions.specs.Tree.{Tree, add, leaf, mul, neg, sub, tree_of}
+use Rattle.air_expressions.specs.declared.base_expression.BaseLeaf.{BaseLeaf}
+use Rattle.air_expressions.specs.declared.base_expression.BaseLeaf.TheVariants.{Variable as OfVariable}
+use Rattle.air_expressions.specs.declared.base_expression.SymbolicExpression.{SymbolicExpression}
+use Rattle.air_expressions.specs.declared.layout.AirLayout.{AirLayout}
+use Rattle.air_expressions.specs.declared.variable.BaseEntry.{BaseEntry}
+use Rattle.air_expressions.specs.declared.variable.BaseEntry.TheVariants.{Main, Preprocessed, Public}
+use Rattle.air_expressions.specs.declared.variable.SymbolicVariable.{SymbolicVariable}
 use Rattle.lookup_debug.specs.declared.fit.Cell.{Cell}
 use Rattle.lookup_debug.specs.declared.fit.FitFault.{FitFault}
 use Rattle.lookup_debug.specs.declared.fit.FitFault.TheVariants.{Heights, Malformed, Missing}

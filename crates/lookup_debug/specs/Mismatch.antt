@@ -9,7 +9,7 @@ use Rattle.std.specs.declared.cmp.Ordering.{Ordering}
 use Rattle.std.specs.declared.cmp.Ordering.TheVariants.{Less, Equal}
 use Rattle.std.specs.declared.string.String.{String}
 use Rattle.std.specs.declared.vec.Vec.{Vec}
-use Rattle.expressions.specs.Faults.{HasFirstFault}
+use Rattle.air_expressions.specs.Faults.{HasFirstFault}
 use Rattle.field.specs.Ring.{Ring}
 use Rattle.field.specs.Sums.{sum_in}
 use Rattle.lookup_debug.specs.Contributions.{Contribution, SentLocation, Traced, location_of}

@@ -6,7 +6,7 @@ ghost use Rattle.lookup_debug.specs.internal.Nets.{amount_nets, tuple_entries};
 
 use field::Field;
 use indexmap::IndexMap;
-use lookup_rows::add_at;
+use lookup_messages::add_at;
 use std::alloc::{AllocError, Global};
 
 /// A tuple with its amount. The tuple is `elements[start..end]`.

@@ -1,12 +1,12 @@
 //! What a lookup contributes, row by row.
 ghost use Rattle.std.specs.Prelude.{◌≡◌, ◌<◌, ◌++◌, [], ◌∷◌, Some, OnOk, length, slice_get};
-ghost use Rattle.expressions.specs.Layout.{Fits};
-ghost use Rattle.expressions.specs.Tree.{tree_of};
+ghost use Rattle.air_expressions.specs.Layout.{Fits};
+ghost use Rattle.air_expressions.specs.Tree.{tree_of};
 ghost use Rattle.lookup_debug.specs.Contributions.{SentLocation, amounts, contributions_at, nonzero};
 ghost use Rattle.lookup_debug.specs.internal.Appended.{Appends, Collects};
 ghost use Rattle.lookup_debug.specs.internal.Arena.{AreWithin};
 ghost use Rattle.lookup_debug.specs.internal.Visits.{collects_walk};
-ghost use Rattle.lookup_rows.specs.TraceBuilder.{builder_layout, builder_window};
+ghost use Rattle.lookup_messages.specs.TraceBuilder.{builder_layout, builder_window};
 ghost use Rattle.lookup_model.specs.Records.{AllFit, HasEqualLengths, IsWithin};
 ghost use Rattle.lookup_model.specs.Sent.{branches_at, flags_at, value, values};
 
@@ -15,8 +15,8 @@ use crate::fault::Location;
 use crate::walk::RowVisitor;
 use air::SymbolicExpression;
 use field::Field;
+use lookup_messages::LookupTraceBuilder;
 use lookup_model::Lookup;
-use lookup_rows::LookupTraceBuilder;
 use std::alloc::{AllocError, Global};
 
 /// Appends the values of a tuple on the builder's row.

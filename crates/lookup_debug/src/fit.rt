@@ -2,8 +2,8 @@
 ghost use Rattle.std.specs.Prelude.{◌≡◌, ◌↔◌, All, IsTrue, MatchOption};
 ghost use Rattle.std.specs.Option.{option_copied};
 ghost use Rattle.air.specs.Traces.{air_traces};
-ghost use Rattle.expressions.specs.Layout.{Fits, LeafFits};
-ghost use Rattle.expressions.specs.Tree.{tree_of};
+ghost use Rattle.air_expressions.specs.Layout.{Fits, LeafFits};
+ghost use Rattle.air_expressions.specs.Tree.{tree_of};
 ghost use Rattle.lookup_debug.specs.Fits.{FitTraces, IsFirstMissing, IsFirstOutside, IsFirstOutsideLookup, IsFirstOutsideOf, IsFirstOutsideTuples, IsFitFault, IsLeafOutside, HasOffset, width_at};
 ghost use Rattle.lookup_model.specs.Records.{AllFit, IsWithin};
 

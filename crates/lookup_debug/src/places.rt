@@ -4,7 +4,7 @@ ghost use Rattle.lookup_debug.specs.BusTable.{entry_of};
 ghost use Rattle.lookup_debug.specs.Contributions.{AreFitting, location_of, nonzero, traced_of};
 ghost use Rattle.lookup_debug.specs.internal.GroupList.{IsWalkable, group_of};
 ghost use Rattle.lookup_debug.specs.internal.Places.{FindsPlaces, HasEntries, HasPlaces, placed_entry, places_walk};
-ghost use Rattle.lookup_rows.specs.TraceBuilder.{builder_layout, builder_window};
+ghost use Rattle.lookup_messages.specs.TraceBuilder.{builder_layout, builder_window};
 ghost use Rattle.lookup_model.specs.Records.{AllFit};
 ghost use Rattle.lookup_model.specs.Sent.{values};
 
@@ -18,8 +18,8 @@ use crate::walk::RowVisitor;
 use air::SymbolicExpression;
 use field::Field;
 use indexmap::IndexMap;
+use lookup_messages::LookupTraceBuilder;
 use lookup_model::Lookup;
-use lookup_rows::LookupTraceBuilder;
 use std::alloc::{AllocError, Global};
 use std::hash::Hash;
 

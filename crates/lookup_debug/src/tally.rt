@@ -9,8 +9,8 @@ use crate::contributions::push_on_row;
 use crate::fault::Location;
 use crate::walk::RowVisitor;
 use field::SignedField;
+use lookup_messages::LookupTraceBuilder;
 use lookup_model::Lookup;
-use lookup_rows::LookupTraceBuilder;
 use std::alloc::{AllocError, Global};
 
 /// Contributions, with the number of those that are sent and of those that are received.

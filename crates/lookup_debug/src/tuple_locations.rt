@@ -4,7 +4,7 @@ ghost use Rattle.std.specs.Cmp.Lexicographic.{pointwise};
 ghost use Rattle.lookup_debug.specs.Contributions.{contributions_at, nonzero, location_of};
 ghost use Rattle.lookup_debug.specs.internal.Appended.{AppendsLocations, FindsLocations};
 ghost use Rattle.lookup_debug.specs.internal.Visits.{locations_walk};
-ghost use Rattle.lookup_rows.specs.TraceBuilder.{builder_layout, builder_window};
+ghost use Rattle.lookup_messages.specs.TraceBuilder.{builder_layout, builder_window};
 ghost use Rattle.lookup_model.specs.Records.{AllFit, HasEqualLengths, IsWithin};
 ghost use Rattle.lookup_model.specs.Sent.{values};
 
@@ -13,8 +13,8 @@ use crate::fault::Location;
 use crate::walk::RowVisitor;
 use air::SymbolicExpression;
 use field::Field;
+use lookup_messages::LookupTraceBuilder;
 use lookup_model::Lookup;
-use lookup_rows::LookupTraceBuilder;
 use std::alloc::{AllocError, Global};
 
 /// Whether these elements have the values of a tuple on the builder's row. Nothing is evaluated past the

@@ -5,7 +5,7 @@ ghost use Rattle.std.specs.List.{flat_map};
 ghost use Rattle.lookup_debug.specs.Contributions.{AreFitting, Contribution, IsTracedFitting, contributions_at, contributions_of, location_of, traced_of};
 ghost use Rattle.lookup_debug.specs.Groups.{is_on, all_lookups, lookup_contributions, lookups_in};
 ghost use Rattle.lookup_debug.specs.internal.Walks.{IsWalk};
-ghost use Rattle.lookup_rows.specs.TraceBuilder.{builder_layout, builder_window};
+ghost use Rattle.lookup_messages.specs.TraceBuilder.{builder_layout, builder_window};
 ghost use Rattle.lookup_model.specs.Records.{HasEqualLengths, IsWithin};
 
 use crate::fault::Location;
@@ -13,8 +13,8 @@ use crate::groups::is_on_bus;
 use crate::instance::LookupDebugInstance;
 use air::Traces;
 use field::Field;
+use lookup_messages::{LookupTraceBuilder, row_builder};
 use lookup_model::Lookup;
-use lookup_rows::{LookupTraceBuilder, row_builder};
 use std::alloc::{AllocError, Global};
 
 /// Visits the rows of lookups, one by one.

@@ -6,7 +6,7 @@ use Rattle.std.specs.List.{enumerate_from, flat_map, range_with_len}
 use Rattle.air.specs.Traces.{AirTraces, height_of}
 use Rattle.field.specs.Extension.{Extension, IsLawful}
 use Rattle.field.specs.Sums.{sum_in}
-use Rattle.lists.proofs.Items.{enumerate_from-append, first_stays}
+use Rattle.list_laws.proofs.Items.{enumerate_from-append, first_stays}
 use Rattle.lookup_generation.proofs.MadeRows.{plain_answer}
 use Rattle.lookup_generation.proofs.RangeFaults.{faults_of_all}
 use Rattle.lookup_generation.proofs.RangeLaws.{cells_alone, range_shifted}

@@ -6,11 +6,11 @@ use Rattle.std.proofs.lemmas.List.{drop_more, length-take, take-append-drop, tak
 use Rattle.std.proofs.Math.Seq.{take-add}
 use Rattle.std.specs.List.{enumerate_from, flat_map, slice_get, slice_range}
 use Rattle.air.specs.Traces.{AirTraces, height_of, window_of}
-use Rattle.expressions.specs.Window.{Window}
+use Rattle.air_expressions.specs.Window.{Window}
 use Rattle.field.specs.Extension.{Extension}
 use Rattle.lookup_generation.specs.internal.Progress.{HaveNoFault, IsFirstOf, RefusesFirstFault}
 use Rattle.lookup_generation.specs.Ranges.{faults_between}
-use Rattle.lists.proofs.Items.{enumerate_from-append, first_stays}
+use Rattle.list_laws.proofs.Items.{enumerate_from-append, first_stays}
 use Rattle.lookup_model.proofs.Lookups.Rows.{trace_faults-append}
 use Rattle.lookup_model.proofs.Lookups.SentRows.{length-sent_rows, sent_rows-at}
 use Rattle.lookup_model.specs.Fault.{fault_of, row_faults, trace_faults}

@@ -7,7 +7,7 @@ use Rattle.std.specs.List.{flat_map, range_with_len}
 use Rattle.field.specs.Extension.{Extension, IsLawful}
 use Rattle.field.specs.Ring.{Ring}
 use Rattle.field.specs.Sums.{sum_in}
-use Rattle.lists.proofs.Parts.{length_rows, row_of_parts, same_parts}
+use Rattle.list_laws.proofs.Parts.{length_rows, row_of_parts, same_parts}
 use Rattle.lookup_generation.proofs.ProgressLaws.{HasCells-more, row_fractions}
 use Rattle.lookup_generation.proofs.RangeFaults.{none_joined}
 use Rattle.lookup_generation.proofs.RangeLists.{joined_parts, later_parts}

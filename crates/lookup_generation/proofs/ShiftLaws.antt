@@ -6,7 +6,7 @@ use Rattle.std.proofs.lemmas.List.{drop-drop, drop_more, length-append, length-d
 use Rattle.std.proofs.lemmas.Nat.{mul-add-lt}
 use Rattle.std.specs.List.{flat_map, range_with_len}
 use Rattle.field.specs.Ring.{Ring}
-use Rattle.lists.proofs.Parts.{flat_more}
+use Rattle.list_laws.proofs.Parts.{flat_more}
 use Rattle.lookup_generation.proofs.ProgressLaws.{product_more}
 use Rattle.lookup_generation.specs.Ranges.{shifted_row}
 use Rattle.matrix.specs.Matrix.{IsShaped, Matrix, height, row}

@@ -4,7 +4,7 @@ ghost use Rattle.std.specs.Prelude.{◌≡◌, ◌+◌, ◌-◌, ◌*◌, ℕ, �
 ghost use Rattle.std.specs.List.{AllZip};
 ghost use Rattle.std.specs.Option.{option_map_or};
 ghost use Rattle.air.specs.Traces.{height_of, traces_of};
-ghost use Rattle.expressions.specs.Window.{Window};
+ghost use Rattle.air_expressions.specs.Window.{Window};
 ghost use Rattle.lookup_model.specs.Denominators.{key_denominator};
 ghost use Rattle.field.specs.Sums.{sum_in};
 ghost use Rattle.matrix.specs.Matrix.{height};

@@ -11,9 +11,9 @@ use Rattle.std.specs.String.{string_bytes}
 use Rattle.std.specs.declared.alloc.Global.{Global}
 use Rattle.std.specs.declared.string.String.{String}
 use Rattle.std.proofs.lemmas.List.{get_or_default, length-map, take-map}
-use Rattle.lists.proofs.Images.{mapped_at}
-use Rattle.expressions.specs.Faults.{SplitsAtFault}
-use Rattle.expressions.proofs.FirstFaults.{split_fault}
+use Rattle.list_laws.proofs.Images.{mapped_at}
+use Rattle.air_expressions.specs.Faults.{SplitsAtFault}
+use Rattle.air_expressions.proofs.FirstFaults.{split_fault}
 use Rattle.lookup_indexed.specs.Faults.{AreDistinctColumns, IsColumnFault, IsFirstColumnFault, NamesTable}
 use Rattle.lookup_indexed.specs.declared.error.IndexedLookupError.{IndexedLookupError}
 use Rattle.lookup_indexed.specs.declared.error.IndexedLookupError.TheVariants.{Memory}

@@ -4,8 +4,8 @@ use Rattle.std.specs.List.{Contains, IsDistinct}
 use Rattle.std.specs.String.{string_bytes}
 use Rattle.std.specs.declared.alloc.Global.{Global}
 use Rattle.std.specs.declared.string.String.{String}
-use Rattle.expressions.specs.Faults.{SplitsAtFault}
-use Rattle.expressions.specs.declared.layout.AirLayout.{AirLayout}
+use Rattle.air_expressions.specs.Faults.{SplitsAtFault}
+use Rattle.air_expressions.specs.declared.layout.AirLayout.{AirLayout}
 use Rattle.lookup_indexed.specs.Declaration.{Read, Table}
 use Rattle.lookup_indexed.specs.declared.indexed.TraceWindow.{TraceWindow}
 use Rattle.lookup_indexed.specs.declared.indexed.TraceWindow.TheVariants.{Main, Preprocessed}

@@ -6,7 +6,7 @@ ghost use Rattle.lookup_indexed.specs.Faults.{AreFaultlessDeclarations, IsFaultl
 use crate::columns::{check_columns, out_of_range};
 use crate::error::IndexedLookupError;
 use crate::indexed::{IndexedRead, IndexedTable, TraceWindow};
-use expressions::AirLayout;
+use air_expressions::AirLayout;
 use std::alloc::Global;
 
 /// Checks the readers and tables of an AIR, and refuses the first fault.

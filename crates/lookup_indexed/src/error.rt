@@ -2,7 +2,7 @@
 ghost use Rattle.std.specs.Prelude.{◌≡◌};
 ghost use Rattle.lookup_indexed.specs.declared.error.IndexedLookupError.TheVariants.{Memory};
 
-use expressions::AirError;
+use air_expressions::AirError;
 use std::alloc::{AllocError, AllocFailed};
 use thiserror::Error;
 

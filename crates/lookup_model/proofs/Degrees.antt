@@ -6,9 +6,9 @@ use Rattle.std.specs.List.{zip}
 use Rattle.field.specs.Sums.{taken_out}
 use Rattle.std.specs.declared.alloc.Global.{Global}
 use Rattle.std.specs.declared.vec.Vec.{Vec}
-use Rattle.lists.proofs.Zips.{length-zipped, zipped_at, zipped_more}
-use Rattle.lists.proofs.Images.{map-map, map_same, mapped_at}
-use Rattle.expressions.specs.declared.base_expression.SymbolicExpression.{SymbolicExpression}
+use Rattle.list_laws.proofs.Zips.{length-zipped, zipped_at, zipped_more}
+use Rattle.list_laws.proofs.Images.{map-map, map_same, mapped_at}
+use Rattle.air_expressions.specs.declared.base_expression.SymbolicExpression.{SymbolicExpression}
 use Rattle.lookup_model.proofs.Branches.{length-degrees}
 use Rattle.lookup_model.specs.LookupDegree.{BranchDegrees, additive_denominator_degree, additive_numerator_degree, branch_degrees, expression_degree, greatest, lookup_branch_degrees, total}
 use Rattle.lookup_model.specs.Records.{HasEqualLengths}

@@ -2,14 +2,14 @@
 use Rattle.std.proofs.Common.{ℕ, Option, None, Some, IfSome, List, get_or}
 use Rattle.std.specs.declared.alloc.Global.{Global}
 use Rattle.std.specs.declared.vec.Vec.{Vec}
-use Rattle.expressions.specs.declared.layout.AirLayout.{AirLayout}
-use Rattle.expressions.specs.declared.base_expression.BaseLeaf.{BaseLeaf}
-use Rattle.expressions.specs.declared.base_expression.BaseLeaf.TheVariants.{Variable, IsFirstRow, IsLastRow, IsTransition, Constant}
-use Rattle.expressions.specs.declared.base_expression.SymbolicExpression.{SymbolicExpression}
-use Rattle.expressions.specs.declared.variable.BaseEntry.{BaseEntry}
-use Rattle.expressions.specs.declared.variable.BaseEntry.TheVariants.{Preprocessed, Main, Public}
-use Rattle.expressions.specs.Layout.{EntryFits, LeafFits, Fits}
-use Rattle.expressions.specs.Tree.{Tree, tree_of, leaf, add, sub, mul, neg}
+use Rattle.air_expressions.specs.declared.layout.AirLayout.{AirLayout}
+use Rattle.air_expressions.specs.declared.base_expression.BaseLeaf.{BaseLeaf}
+use Rattle.air_expressions.specs.declared.base_expression.BaseLeaf.TheVariants.{Variable, IsFirstRow, IsLastRow, IsTransition, Constant}
+use Rattle.air_expressions.specs.declared.base_expression.SymbolicExpression.{SymbolicExpression}
+use Rattle.air_expressions.specs.declared.variable.BaseEntry.{BaseEntry}
+use Rattle.air_expressions.specs.declared.variable.BaseEntry.TheVariants.{Preprocessed, Main, Public}
+use Rattle.air_expressions.specs.Layout.{EntryFits, LeafFits, Fits}
+use Rattle.air_expressions.specs.Tree.{Tree, tree_of, leaf, add, sub, mul, neg}
 use Rattle.lookup_model.specs.Records.{AllFit, IsWithin, LookupsFit}
 use Rattle.lookup_model.specs.declared.types.Lookup.{Lookup}
 

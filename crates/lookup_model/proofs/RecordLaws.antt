@@ -3,12 +3,12 @@ use Rattle.std.proofs.Common.{arith, subst, sym, ◌≡◌, ℕ, ◌+◌, ◌<�
 use Rattle.std.specs.List.{slice_get}
 use Rattle.std.specs.declared.alloc.Global.{Global}
 use Rattle.std.specs.declared.vec.Vec.{Vec}
-use Rattle.lists.proofs.Each.{All-at}
-use Rattle.lists.proofs.Items.{holds_at_next}
-use Rattle.expressions.specs.declared.layout.AirLayout.{AirLayout}
-use Rattle.expressions.specs.declared.base_expression.SymbolicExpression.{SymbolicExpression}
-use Rattle.expressions.specs.Layout.{Fits}
-use Rattle.expressions.specs.Tree.{tree_of}
+use Rattle.list_laws.proofs.Each.{All-at}
+use Rattle.list_laws.proofs.Items.{holds_at_next}
+use Rattle.air_expressions.specs.declared.layout.AirLayout.{AirLayout}
+use Rattle.air_expressions.specs.declared.base_expression.SymbolicExpression.{SymbolicExpression}
+use Rattle.air_expressions.specs.Layout.{Fits}
+use Rattle.air_expressions.specs.Tree.{tree_of}
 use Rattle.lookup_model.specs.Records.{AllFit, AreRecordsBelow, HasEqualLengths, IsRecordAt, IsWithin}
 use Rattle.lookup_model.specs.declared.types.Lookup.{Lookup}
 

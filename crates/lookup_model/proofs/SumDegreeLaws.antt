@@ -1,6 +1,6 @@
 -- The degrees of two sums of fractions together.
 use Rattle.std.proofs.Common.{◌≡◌, ℕ, ◌+◌, ◌≤◌, max, List, [], ◌∷◌, ◌++◌, None, map, ap, ◌∙◌, arith}
-use Rattle.lists.proofs.Images.{map-map, map_same}
+use Rattle.list_laws.proofs.Images.{map-map, map_same}
 use Rattle.field.specs.Sums.{taken_out}
 use Rattle.lookup_model.specs.LookupDegree.{BranchDegrees, additive_denominator_degree, constraint_degree_of, greatest}
 use Rattle.lookup_model.specs.SumDegrees.{greater_degree}

@@ -4,7 +4,7 @@ use Rattle.std.specs.Prelude.{ℕ, Bool, ◌+◌, max, List, [], ◌∷◌, ◌+
 use Rattle.std.specs.List.{zip}
 use Rattle.field.specs.Ring.{of_bool, sub_in}
 use Rattle.field.specs.Sums.{sum_in, product_in, taken_out}
-use Rattle.expressions.specs.Window.{ExtWindow}
+use Rattle.air_expressions.specs.Window.{ExtWindow}
 use Rattle.lookup_model.specs.Denominators.{column_denominator}
 use Rattle.field.specs.Extension.{Extension}
 use Rattle.lookup_model.specs.LookupDegree.{lookup_degree}

@@ -1,8 +1,8 @@
 -- What contracts see of a lookup: texts as bytes, vectors as lists.
 use Rattle.std.specs.Prelude.{ℕ, List, Option, Some, None, map, option_map}
 use Rattle.std.specs.String.{string_bytes}
-use Rattle.expressions.specs.Tree.{Tree, tree_of}
-use Rattle.expressions.specs.declared.base_expression.SymbolicExpression.{SymbolicExpression}
+use Rattle.air_expressions.specs.Tree.{Tree, tree_of}
+use Rattle.air_expressions.specs.declared.base_expression.SymbolicExpression.{SymbolicExpression}
 use Rattle.lookup_model.specs.declared.types.Kind.{Kind}
 use Rattle.lookup_model.specs.declared.types.Kind.TheVariants.{Local, Global}
 use Rattle.lookup_model.specs.declared.types.Lookup.{Lookup}

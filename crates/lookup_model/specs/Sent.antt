@@ -3,10 +3,10 @@ use Rattle.std.specs.Prelude.{ℕ, Bool, List, Option, None, Some, map}
 use Rattle.std.specs.List.{filter, zip}
 use Rattle.std.specs.Option.{option_map}
 use Rattle.field.specs.Ring.{Ring}
-use Rattle.expressions.specs.declared.base_expression.SymbolicExpression.{SymbolicExpression}
-use Rattle.expressions.specs.Meaning.{value_of}
-use Rattle.expressions.specs.Tree.{tree_of}
-use Rattle.expressions.specs.Window.{Window}
+use Rattle.air_expressions.specs.declared.base_expression.SymbolicExpression.{SymbolicExpression}
+use Rattle.air_expressions.specs.Meaning.{value_of}
+use Rattle.air_expressions.specs.Tree.{tree_of}
+use Rattle.air_expressions.specs.Window.{Window}
 use Rattle.lookup_model.specs.Message.{Message}
 use Rattle.lookup_model.specs.declared.types.Lookup.{Lookup}
 

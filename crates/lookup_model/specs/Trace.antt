@@ -2,7 +2,7 @@
 use Rattle.std.specs.Prelude.{ℕ, Bool, List, map}
 use Rattle.std.specs.List.{range_with_len}
 use Rattle.field.specs.Ring.{Ring}
-use Rattle.expressions.specs.Window.{Window}
+use Rattle.air_expressions.specs.Window.{Window}
 use Rattle.air.specs.Traces.{AirTraces, height_of, window_of}
 use Rattle.lookup_model.specs.Sent.{Sent, sent_at}
 use Rattle.lookup_model.specs.declared.types.Lookup.{Lookup}

@@ -4,7 +4,7 @@ use Rattle.std.specs.Prelude.{◌≡◌, ℕ, ◌+◌, ◌-◌, ◌<◌, ◌==�
 use Rattle.std.specs.List.{AllByRecursion, flat_map, range_with_len}
 use Rattle.std.specs.Option.{is_some}
 use Rattle.matrix.specs.Matrix.{IsShaped, Matrix, height, row}
-use Rattle.expressions.specs.Window.{ExtWindow, ext_window_at}
+use Rattle.air_expressions.specs.Window.{ExtWindow, ext_window_at}
 use Rattle.air.specs.Traces.{AirTraces, height_of}
 use Rattle.lookup_model.specs.Constraints.{lookup_constraints}
 use Rattle.field.specs.Extension.{Extension}

@@ -1,10 +1,10 @@
 //! Copies of lookups.
 ghost use Rattle.std.specs.Prelude.{◌≡◌, IfOk, map, option_map};
-ghost use Rattle.expressions.specs.Tree.{tree_of};
+ghost use Rattle.air_expressions.specs.Tree.{tree_of};
 ghost use Rattle.lookup_model.specs.Outline.{bus_of, outline_of};
 
 use crate::types::{Kind, Lookup};
-use expressions::{SymbolicExpression, copy_expressions};
+use air_expressions::{SymbolicExpression, copy_expressions};
 use field::Field;
 use std::alloc::{AllocError, Global};
 

@@ -7,7 +7,7 @@ use crate::error::LookupError;
 use crate::expression_degree::{degree_of, degree_of_tuple, sum_of_degrees};
 use crate::sum_degrees::SumDegrees;
 use crate::types::Lookup;
-use expressions::SymbolicExpression;
+use air_expressions::SymbolicExpression;
 
 /// The degree of the constraint of a lookup's fraction, if the transition selector has degree
 /// `transition`.

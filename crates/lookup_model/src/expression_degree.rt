@@ -3,7 +3,7 @@ ghost use Rattle.std.specs.Prelude.{◌+◌};
 ghost use Rattle.lookup_model.specs.LookupDegree.{IsDegree, expression_degree, tuple_degree};
 
 use crate::error::LookupError;
-use expressions::SymbolicExpression;
+use air_expressions::SymbolicExpression;
 
 /// The greatest degree of an element, which is that of the tuple's denominator.
 pub(crate) fn degree_of_tuple<F>(

@@ -3,7 +3,7 @@ ghost use Rattle.std.specs.Prelude.{◌↔◌, All, IsTrue, IfSome, MatchOption}
 ghost use Rattle.lookup_model.specs.Records.{AllFit, AreRecords, HasEqualLengths, IsFirstMalformed, IsRecordAt, IsWithin, LookupsFit};
 
 use crate::types::Lookup;
-use expressions::{AirLayout, SymbolicExpression};
+use air_expressions::{AirLayout, SymbolicExpression};
 
 /// Whether lookups fit an AIR of this layout:
 ///

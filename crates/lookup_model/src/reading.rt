@@ -2,7 +2,7 @@
 ghost use Rattle.std.specs.Prelude.{◌≡◌, IfOk, Some};
 
 use crate::types::{Kind, Lookup};
-use expressions::SymbolicExpression;
+use air_expressions::SymbolicExpression;
 use serde::{Deserialize, DeserializeOwned, Deserializer, Format, Name};
 use std::alloc::Global;
 

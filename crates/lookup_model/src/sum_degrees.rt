@@ -7,7 +7,7 @@ ghost use Rattle.lookup_model.specs.Records.{HasEqualLengths};
 use crate::error::LookupError;
 use crate::expression_degree::{degree_of, degree_of_tuple, sum_of_degrees};
 use crate::types::Lookup;
-use expressions::SymbolicExpression;
+use air_expressions::SymbolicExpression;
 
 /// The degrees of a sum of fractions over the product of all their denominators.
 ///

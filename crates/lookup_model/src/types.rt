@@ -1,7 +1,7 @@
 //! Lookups and their parts.
 ghost use Rattle.std.specs.Prelude.{◌≡◌};
 
-use expressions::SymbolicExpression;
+use air_expressions::SymbolicExpression;
 use field::PrimeCharacteristicRing;
 use serde::{Described, Deserialize, Serialize, Serializer};
 

@@ -1,7 +1,7 @@
 -- What an AIR declares, from the check of what it left.
 use Rattle.std.proofs.Common.{◌≡◌, ◌⊎◌, List, map, Result, Ok, Err, MatchResult, inl, inr, ap, subst, ◌∙◌}
-use Rattle.expressions.specs.declared.error.AirError.{AirError}
-use Rattle.expressions.specs.declared.layout.AirLayout.{AirLayout}
+use Rattle.air_expressions.specs.declared.error.AirError.{AirError}
+use Rattle.air_expressions.specs.declared.layout.AirLayout.{AirLayout}
 use Rattle.lookup_indexed.specs.Declaration.{Read, Table, read_of, declared_table}
 use Rattle.lookup_indexed.specs.declared.indexed.IndexedRead.{IndexedRead}
 use Rattle.lookup_indexed.specs.declared.indexed.IndexedTable.{IndexedTable}

@@ -2,7 +2,7 @@
 use Rattle.std.proofs.Common.{◌≡◌, List, map, All}
 use Rattle.std.proofs.lemmas.List.Elements.{All-map, All-same}
 use Rattle.std.specs.declared.vec.Vec.{Vec}
-use Rattle.lists.proofs.Each.{All-of_map}
+use Rattle.list_laws.proofs.Each.{All-of_map}
 use Rattle.lookup_record.specs.Interaction.{Branch}
 use Rattle.lookup_record.specs.Messages.{flag_and_fields, flag_and_key}
 use Rattle.lookup_record.specs.Within.{BranchWithin, KeyWithin}

@@ -1,9 +1,9 @@
 -- Evaluations of an AIR for its own layout.
 use Rattle.std.proofs.Common.{◌≡◌, ℕ, None, Result, ap, refl, subst, ◌∙◌}
 use Rattle.std.proofs.lemmas.Bool.{eq-eqb}
-use Rattle.expressions.specs.Layout.{first_mismatch, layout_of_widths}
-use Rattle.expressions.specs.declared.error.AirError.{AirError}
-use Rattle.expressions.specs.declared.layout.AirLayout.{AirLayout}
+use Rattle.air_expressions.specs.Layout.{first_mismatch, layout_of_widths}
+use Rattle.air_expressions.specs.declared.error.AirError.{AirError}
+use Rattle.air_expressions.specs.declared.layout.AirLayout.{AirLayout}
 use Rattle.lookup_record.specs.RecordedAir.{EvaluatesNew}
 use Rattle.lookup_record.specs.declared.symbolic.InteractionSymbolicBuilder.{InteractionSymbolicBuilder}
 

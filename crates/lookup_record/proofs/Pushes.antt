@@ -1,6 +1,6 @@
 -- What bus calls answer.
 use Rattle.std.proofs.Common.{Result, Ok, Err, MatchResult, inr}
-use Rattle.expressions.specs.declared.error.AirError.{AirError}
+use Rattle.air_expressions.specs.declared.error.AirError.{AirError}
 use Rattle.lookup_record.specs.Messages.{PushesOne}
 
 -- a builder's answer to the interaction that is meant is the answer of the bus

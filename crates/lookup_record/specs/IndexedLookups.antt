@@ -1,7 +1,7 @@
 -- The indexed lookups of an AIR.
 use Rattle.std.specs.Prelude.{◌≡◌, ◌⊎◌, List, map, Result, Ok, Err, MatchResult}
-use Rattle.expressions.specs.declared.error.AirError.{AirError}
-use Rattle.expressions.specs.declared.layout.AirLayout.{AirLayout}
+use Rattle.air_expressions.specs.declared.error.AirError.{AirError}
+use Rattle.air_expressions.specs.declared.layout.AirLayout.{AirLayout}
 use Rattle.lookup_indexed.specs.Declaration.{read_of, declared_table}
 use Rattle.lookup_indexed.specs.declared.indexed.IndexedRead.{IndexedRead}
 use Rattle.lookup_indexed.specs.declared.indexed.IndexedTable.{IndexedTable}

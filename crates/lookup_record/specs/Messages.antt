@@ -1,8 +1,8 @@
 -- What bus calls push.
 use Rattle.std.specs.Prelude.{◌≡◌, ℕ, ◌⊎◌, List, map, Result, MatchResult, All}
 use Rattle.std.specs.declared.vec.Vec.{Vec}
-use Rattle.expressions.specs.declared.error.AirError.{AirError}
-use Rattle.expressions.specs.declared.error.AirError.TheVariants.{Memory}
+use Rattle.air_expressions.specs.declared.error.AirError.{AirError}
+use Rattle.air_expressions.specs.declared.error.AirError.TheVariants.{Memory}
 use Rattle.lookup_record.specs.Interaction.{Branch, Interaction, global, exclusive}
 use Rattle.lookup_record.specs.Negation.{IsNegation}
 

@@ -1,10 +1,10 @@
 -- What a builder that records a whole AIR holds.
 use Rattle.std.specs.Prelude.{◌≡◌, ◌⊎◌, List, [], ◌∷◌, ◌++◌, map, refl, Result, Ok, Err, MatchResult}
 use Rattle.air.specs.Recorded.{Recorded, recorded, nothing_recorded}
-use Rattle.expressions.specs.declared.error.AirError.{AirError}
-use Rattle.expressions.specs.declared.error.AirError.TheVariants.{Memory}
-use Rattle.expressions.specs.declared.layout.AirLayout.{AirLayout}
-use Rattle.expressions.specs.declared.base_expression.SymbolicExpression.{SymbolicExpression}
+use Rattle.air_expressions.specs.declared.error.AirError.{AirError}
+use Rattle.air_expressions.specs.declared.error.AirError.TheVariants.{Memory}
+use Rattle.air_expressions.specs.declared.layout.AirLayout.{AirLayout}
+use Rattle.air_expressions.specs.declared.base_expression.SymbolicExpression.{SymbolicExpression}
 use Rattle.lookup_indexed.specs.Declaration.{Read, Table, Declaration, read, table, read_of, declared_table}
 use Rattle.lookup_record.specs.Interaction.{Tuple, GlobalInteraction, ExclusiveInteraction, Interaction, global, local, exclusive}
 use Rattle.lookup_record.specs.Records.{global_of, local_of, exclusive_of}

@@ -2,11 +2,11 @@
 use Rattle.std.specs.Prelude.{◌≡◌, All, Result, Ok}
 use Rattle.std.proofs.Common.{subst, sym}
 use Rattle.std.proofs.lemmas.List.Elements.{All-nil, All-push}
-use Rattle.expressions.specs.Layout.{Fits}
-use Rattle.expressions.specs.Tree.{tree_of}
-use Rattle.expressions.specs.declared.base_expression.SymbolicExpression.{SymbolicExpression}
-use Rattle.expressions.specs.declared.error.AirError.{AirError}
-use Rattle.expressions.specs.declared.layout.AirLayout.{AirLayout}
+use Rattle.air_expressions.specs.Layout.{Fits}
+use Rattle.air_expressions.specs.Tree.{tree_of}
+use Rattle.air_expressions.specs.declared.base_expression.SymbolicExpression.{SymbolicExpression}
+use Rattle.air_expressions.specs.declared.error.AirError.{AirError}
+use Rattle.air_expressions.specs.declared.layout.AirLayout.{AirLayout}
 use Rattle.lookup_indexed.specs.Declaration.{Declaration, read, table}
 use Rattle.lookup_record.specs.Interaction.{Interaction, global, local, exclusive}
 use Rattle.lookup_record.specs.Within.{BranchWithin, GlobalWithin, IsInteractionWithin, TupleWithin}

@@ -1,7 +1,7 @@
 -- What contracts see of the records of a symbolic evaluation: texts as bytes, vectors as lists.
 use Rattle.std.specs.Prelude.{List, map}
 use Rattle.std.specs.String.{string_bytes}
-use Rattle.expressions.specs.declared.base_expression.SymbolicExpression.{SymbolicExpression}
+use Rattle.air_expressions.specs.declared.base_expression.SymbolicExpression.{SymbolicExpression}
 use Rattle.lookup_record.specs.Interaction.{Tuple, GlobalInteraction, Branch, ExclusiveInteraction}
 use Rattle.lookup_record.specs.Pushed.{tuple_of}
 use Rattle.lookup_record.specs.declared.interaction.SymbolicExclusiveBranch.{SymbolicExclusiveBranch}

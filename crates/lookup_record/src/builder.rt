@@ -1,7 +1,7 @@
 //! Builders that take interactions and indexed declarations as well as constraints.
 ghost use Rattle.std.specs.Prelude.{◌≡◌, ℕ, ◌↔◌, MatchResult};
-ghost use Rattle.expressions.specs.Window.{Window};
-ghost use Rattle.expressions.specs.declared.error.AirError.{AirError};
+ghost use Rattle.air_expressions.specs.Window.{Window};
+ghost use Rattle.air_expressions.specs.declared.error.AirError.{AirError};
 ghost use Rattle.lookup_indexed.specs.Declaration.{Declaration, read, table};
 ghost use Rattle.lookup_record.specs.Interaction.{Interaction};
 ghost use Rattle.lookup_record.specs.Pushed.{pushed_exclusive, pushed_global, pushed_local};

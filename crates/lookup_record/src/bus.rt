@@ -3,7 +3,7 @@ ghost use Rattle.std.specs.Prelude.{◌≡◌, All, IfOk, MatchResult, OnOk, map
 ghost use Rattle.lookup_record.specs.Messages.{IsExclusiveQuery, IsNegatedMessage, IsUnitQuery, PushesOne, flag_and_fields, flag_and_key};
 ghost use Rattle.lookup_record.specs.Pushed.{pushed_branch, pushed_global};
 ghost use Rattle.lookup_record.specs.Within.{KeyWithin};
-ghost use Rattle.expressions.specs.declared.layout.AirLayout.{AirLayout};
+ghost use Rattle.air_expressions.specs.declared.layout.AirLayout.{AirLayout};
 
 use crate::builder::InteractionBuilder;
 use crate::count::Count;

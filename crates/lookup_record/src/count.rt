@@ -1,7 +1,7 @@
 //! Signed counts of messages.
 ghost use Rattle.std.specs.Prelude.{◌≡◌, ℕ, IfOk};
-ghost use Rattle.expressions.specs.Tree.{tree_of};
-ghost use Rattle.expressions.specs.declared.layout.AirLayout.{AirLayout};
+ghost use Rattle.air_expressions.specs.Tree.{tree_of};
+ghost use Rattle.air_expressions.specs.declared.layout.AirLayout.{AirLayout};
 ghost use Rattle.lookup_record.specs.Negation.{IsNegation};
 
 use air::{Expression, SymbolicExpression, WholeNumbers};

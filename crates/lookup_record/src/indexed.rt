@@ -1,6 +1,6 @@
 //! Indexed lookups, whose readers name the entry that they read.
 ghost use Rattle.std.specs.Prelude.{◌≡◌, ◌⊎◌, ◌↔◌, [], IfOk, IsTrue, MatchResult, map};
-ghost use Rattle.expressions.specs.Layout.{layout_of_widths};
+ghost use Rattle.air_expressions.specs.Layout.{layout_of_widths};
 ghost use Rattle.lookup_indexed.specs.Declaration.{read_of, declared_table};
 ghost use Rattle.lookup_indexed.specs.Faults.{AreFaultlessDeclarations, IsFirstDeclarationFault};
 ghost use Rattle.lookup_indexed.specs.declared.error.IndexedLookupError.TheVariants.{Memory};

@@ -1,6 +1,6 @@
 //! The records of a symbolic evaluation.
 ghost use Rattle.std.specs.Prelude.{◌≡◌, IfOk, map};
-ghost use Rattle.expressions.specs.Tree.{tree_of};
+ghost use Rattle.air_expressions.specs.Tree.{tree_of};
 ghost use Rattle.lookup_record.specs.Interaction.{map_branch, map_exclusive, map_global, map_tuple};
 ghost use Rattle.lookup_record.specs.Pushed.{tuple_of};
 ghost use Rattle.lookup_record.specs.Records.{branch_of, exclusive_of, global_of, local_of};

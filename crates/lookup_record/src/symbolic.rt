@@ -1,10 +1,10 @@
 //! A builder that records a whole AIR.
 ghost use Rattle.std.proofs.Common.{◌∙◌, ap, subst, sym};
 ghost use Rattle.std.specs.Prelude.{◌≡◌, IfErr, IfOk, MatchResult, None, Some, Ok, Err, length, map};
-ghost use Rattle.expressions.specs.ExtTree.{ext_tree_of};
-ghost use Rattle.expressions.specs.Layout.{first_mismatch};
-ghost use Rattle.expressions.specs.Tree.{tree_of};
-ghost use Rattle.expressions.specs.declared.error.AirError.TheVariants.{Memory};
+ghost use Rattle.air_expressions.specs.ExtTree.{ext_tree_of};
+ghost use Rattle.air_expressions.specs.Layout.{first_mismatch};
+ghost use Rattle.air_expressions.specs.Tree.{tree_of};
+ghost use Rattle.air_expressions.specs.declared.error.AirError.TheVariants.{Memory};
 ghost use Rattle.lookup_record.specs.Pushed.{pushed_branch, pushed_exclusive, pushed_global, pushed_local};
 ghost use Rattle.lookup_record.specs.Records.{branch_of};
 
@@ -199,7 +199,7 @@ impl<F: Field, EF: ExtensionField<F>> InteractionSymbolicBuilder<F, EF> {
 
 impl<F: Field, EF: ExtensionField<F>> AirBuilder for InteractionSymbolicBuilder<F, EF> {
     ghost use Rattle.air.specs.Leaves.{iff_along, variable_degree-le};
-    ghost use Rattle.expressions.specs.Meaning.{value_of, variable_value};
+    ghost use Rattle.air_expressions.specs.Meaning.{value_of, variable_value};
     ghost use Rattle.air.specs.Recorded.{HasWidths, recorded, with_base};
     ghost use Rattle.lookup_record.specs.RecordedAir.{recorded_air, with_constraints};
     ghost use Rattle.lookup_record.specs.RecordedWithin.{PushedWithin};
@@ -279,7 +279,7 @@ impl<F: Field, EF: ExtensionField<F>> AirBuilder for InteractionSymbolicBuilder<
 }
 
 impl<F: Field, EF: ExtensionField<F>> ExtensionBuilder for InteractionSymbolicBuilder<F, EF> {
-    ghost use Rattle.expressions.specs.ExtMeaning.{ext_value_of, ext_variable_value};
+    ghost use Rattle.air_expressions.specs.ExtMeaning.{ext_value_of, ext_variable_value};
     ghost use Rattle.air.specs.Leaves.{iff_along, ext_variable_degree-le};
     ghost use Rattle.air.specs.Recorded.{HasExtWidths, HasWidths, recorded, with_extension};
     ghost use Rattle.lookup_record.specs.RecordedAir.{recorded_air, with_constraints};
@@ -336,7 +336,7 @@ impl<F: Field, EF: ExtensionField<F>> ExtensionBuilder for InteractionSymbolicBu
 }
 
 impl<F: Field, EF: ExtensionField<F>> PermutationAirBuilder for InteractionSymbolicBuilder<F, EF> {
-    ghost use Rattle.expressions.specs.ExtMeaning.{ext_value_of, ext_variable_value};
+    ghost use Rattle.air_expressions.specs.ExtMeaning.{ext_value_of, ext_variable_value};
 
     type MP = RowMajorMatrix<SymbolicVariableExt<F, EF>>;
 

@@ -1,8 +1,8 @@
-//! `lookup-run MACHINE FIELD ALPHA BETA`: `run` of `lookup_program` over the words of the command line
+//! `lookup-run MACHINE FIELD ALPHA BETA`: `run` of `example_machines` over the words of the command line
 //! and the standard streams.
 #![tactic(auto)]
 
-use lookup_program::{RunError, refuse, run};
+use example_machines::{RunError, refuse, run};
 use std::process::ExitCode;
 use std::{env, io};
 

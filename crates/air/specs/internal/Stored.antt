@@ -1,7 +1,7 @@
 -- The variables that are kept for a layout.
 use Rattle.air.specs.internal.Variables.{IsVariableMatrix, IsVariableRow}
-use Rattle.expressions.specs.declared.variable.BaseEntry.TheVariants.{Main, Preprocessed, Public}
-use Rattle.expressions.specs.declared.variable.ExtEntry.TheVariants.{Challenge, Permutation, PermutationValue}
+use Rattle.air_expressions.specs.declared.variable.BaseEntry.TheVariants.{Main, Preprocessed, Public}
+use Rattle.air_expressions.specs.declared.variable.ExtEntry.TheVariants.{Challenge, Permutation, PermutationValue}
 use Rattle.air.specs.declared.recording.variables.LayoutVariables.TheInside.{Inside}
 
 -- the variables are those of the layout, each at its index

@@ -3,12 +3,12 @@ ghost use Rattle.std.specs.Prelude.{◌≡◌, ◌≢◌, ◌+◌, ◌<◌, ◌�
 ghost use Rattle.std.proofs.Common.{ap, rules};
 ghost use Rattle.std.specs.Option.{option_copied};
 ghost use Rattle.matrix.specs.Matrix.{height, row};
-ghost use Rattle.expressions.specs.Layout.{width_of_option};
-ghost use Rattle.expressions.specs.Window.{row_of_option};
-ghost use Rattle.expressions.specs.declared.error.AirError.TheVariants.{Assertion};
+ghost use Rattle.air_expressions.specs.Layout.{width_of_option};
+ghost use Rattle.air_expressions.specs.Window.{row_of_option};
+ghost use Rattle.air_expressions.specs.declared.error.AirError.TheVariants.{Assertion};
 
 use crate::debug::inputs::RowInputs;
-use expressions::{AirBuilder, AirError, ExtensionBuilder, PermutationAirBuilder};
+use air_expressions::{AirBuilder, AirError, ExtensionBuilder, PermutationAirBuilder};
 use field::{Domain, ExtensionField, Field};
 use matrix::{RowMajorMatrix, RowWindow};
 use std::alloc::{AllocError, Global};

@@ -6,7 +6,7 @@ ghost use Rattle.air.specs.Row.{HeightFits, IsFirstRefusedRow, OptionHeightFits,
 
 use crate::debug::builder::DebugConstraintBuilder;
 use crate::debug::inputs::RowInputs;
-use expressions::{Air, AirError};
+use air_expressions::{Air, AirError};
 use field::{ExtensionField, Field};
 use std::alloc::Global;
 

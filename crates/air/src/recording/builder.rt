@@ -1,10 +1,10 @@
 //! A builder that records constraints.
-ghost use Rattle.expressions.specs.declared.error.AirError.TheVariants.{Memory};
+ghost use Rattle.air_expressions.specs.declared.error.AirError.TheVariants.{Memory};
 ghost use Rattle.std.proofs.Common.{ap};
 ghost use Rattle.std.specs.Prelude.{◌≡◌, ◌+◌, length, [], ◌∷◌, ◌++◌, IfOk, IfErr, OnOk, OnErr};
 
 use crate::recording::variables::LayoutVariables;
-use expressions::{
+use air_expressions::{
     AirBuilder, AirError, AirLayout, BaseLeaf, ExtLeaf, ExtensionBuilder, PermutationAirBuilder,
     SymbolicExpression, SymbolicExpressionExt, SymbolicVariable, SymbolicVariableExt,
 };
@@ -113,7 +113,7 @@ fn copy_rows<V: Copy>(
 
 impl<F: Field, EF: ExtensionField<F>> AirBuilder for SymbolicAirBuilder<F, EF> {
     ghost use Rattle.air.specs.Leaves.{iff_along, variable_degree-le};
-    ghost use Rattle.expressions.specs.Meaning.{value_of, variable_value};
+    ghost use Rattle.air_expressions.specs.Meaning.{value_of, variable_value};
     ghost use Rattle.air.specs.Recorded.{HasWidths, recorded, with_base};
 
     type F = F;
@@ -199,7 +199,7 @@ impl<F: Field, EF: ExtensionField<F>> AirBuilder for SymbolicAirBuilder<F, EF> {
 }
 
 impl<F: Field, EF: ExtensionField<F>> ExtensionBuilder for SymbolicAirBuilder<F, EF> {
-    ghost use Rattle.expressions.specs.ExtMeaning.{ext_value_of, ext_variable_value};
+    ghost use Rattle.air_expressions.specs.ExtMeaning.{ext_value_of, ext_variable_value};
     ghost use Rattle.air.specs.Leaves.{iff_along, ext_variable_degree-le};
     ghost use Rattle.air.specs.Recorded.{HasExtWidths, HasWidths, recorded, with_extension};
 
@@ -262,7 +262,7 @@ impl<F: Field, EF: ExtensionField<F>> ExtensionBuilder for SymbolicAirBuilder<F,
 }
 
 impl<F: Field, EF: ExtensionField<F>> PermutationAirBuilder for SymbolicAirBuilder<F, EF> {
-    ghost use Rattle.expressions.specs.ExtMeaning.{ext_value_of, ext_variable_value};
+    ghost use Rattle.air_expressions.specs.ExtMeaning.{ext_value_of, ext_variable_value};
 
     type MP = RowMajorMatrix<SymbolicVariableExt<F, EF>>;
 

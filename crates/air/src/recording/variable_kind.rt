@@ -2,7 +2,7 @@
 ghost use Rattle.std.specs.Prelude.{◌≡◌, ℕ, IfOk};
 ghost use Rattle.air.specs.internal.Variables.{IsVariableRow, IsVariableMatrix};
 
-use expressions::{BaseEntry, ExtEntry, SymbolicVariable, SymbolicVariableExt};
+use air_expressions::{BaseEntry, ExtEntry, SymbolicVariable, SymbolicVariableExt};
 use matrix::RowMajorMatrix;
 use std::alloc::{AllocError, Global};
 

@@ -1,11 +1,11 @@
 //! The variables of a layout.
 ghost use Rattle.std.specs.Prelude.{◌≡◌, IfOk};
 ghost use Rattle.air.specs.internal.Variables.{IsVariableMatrix, IsVariableRow};
-ghost use Rattle.expressions.specs.declared.variable.BaseEntry.TheVariants.{Main, Preprocessed, Public};
-ghost use Rattle.expressions.specs.declared.variable.ExtEntry.TheVariants.{Challenge, Permutation, PermutationValue};
+ghost use Rattle.air_expressions.specs.declared.variable.BaseEntry.TheVariants.{Main, Preprocessed, Public};
+ghost use Rattle.air_expressions.specs.declared.variable.ExtEntry.TheVariants.{Challenge, Permutation, PermutationValue};
 
 use crate::recording::variable_kind::{variable_rows, variables};
-use expressions::{AirLayout, BaseEntry, ExtEntry, SymbolicVariable, SymbolicVariableExt};
+use air_expressions::{AirLayout, BaseEntry, ExtEntry, SymbolicVariable, SymbolicVariableExt};
 use matrix::RowMajorMatrix;
 use std::alloc::{AllocError, Global};
 use std::marker::Model;
@@ -23,7 +23,7 @@ pub struct LayoutVariables<F, EF> {
 }
 
 impl<F, EF> Model for LayoutVariables<F, EF> {
-    ghost use Rattle.expressions.specs.declared.layout.AirLayout.{AirLayout};
+    ghost use Rattle.air_expressions.specs.declared.layout.AirLayout.{AirLayout};
 
     ghost Value = { AirLayout };
 

@@ -2,13 +2,13 @@
 use Rattle.std.specs.List.{AllZip}
 use Rattle.std.specs.Prelude.{ℕ, List, [], ◌∷◌}
 use Rattle.std.proofs.Props.{props}
-use Rattle.expressions.specs.Layout.{EntryFits, Fits, LeafFits}
-use Rattle.expressions.specs.Tree.{Tree, leaf, add, sub, mul, neg}
-use Rattle.expressions.specs.declared.base_expression.BaseLeaf.{BaseLeaf}
-use Rattle.expressions.specs.declared.base_expression.BaseLeaf.TheVariants.{Variable, IsFirstRow, IsLastRow, IsTransition, Constant}
-use Rattle.expressions.specs.declared.layout.AirLayout.{AirLayout}
-use Rattle.expressions.specs.declared.variable.BaseEntry.{BaseEntry}
-use Rattle.expressions.specs.declared.variable.BaseEntry.TheVariants.{Preprocessed, Main, Public}
+use Rattle.air_expressions.specs.Layout.{EntryFits, Fits, LeafFits}
+use Rattle.air_expressions.specs.Tree.{Tree, leaf, add, sub, mul, neg}
+use Rattle.air_expressions.specs.declared.base_expression.BaseLeaf.{BaseLeaf}
+use Rattle.air_expressions.specs.declared.base_expression.BaseLeaf.TheVariants.{Variable, IsFirstRow, IsLastRow, IsTransition, Constant}
+use Rattle.air_expressions.specs.declared.layout.AirLayout.{AirLayout}
+use Rattle.air_expressions.specs.declared.variable.BaseEntry.{BaseEntry}
+use Rattle.air_expressions.specs.declared.variable.BaseEntry.TheVariants.{Preprocessed, Main, Public}
 use Rattle.lookup.specs.Lookups.{lookups_of}
 use Rattle.lookup.specs.declared.lookups.Lookups.{Lookups}
 use Rattle.lookup_model.specs.Records.{AllFit, IsWithin}

@@ -1,6 +1,6 @@
 //! The example of the README: two AIRs on one bus, from their evaluation to an accepted witness.
 ghost use Rattle.std.specs.Prelude.{OnOk};
-ghost use Rattle.expressions.specs.StaysWithin.{StaysWithin};
+ghost use Rattle.air_expressions.specs.StaysWithin.{StaysWithin};
 
 use super::{alone, has_result, holds, trace};
 use air::{Air, AirError, BaseAir, current_cell, current_cells};

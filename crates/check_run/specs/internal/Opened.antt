@@ -2,7 +2,7 @@
 use Rattle.std.specs.Prelude.{ℕ, List, map}
 use Rattle.field_words.specs.Fields.{Fields}
 use Rattle.language_meaning.specs.Files.{File}
-use Rattle.lookup_words.specs.declared.request.ChallengeWords.{ChallengeWords}
+use Rattle.check_words.specs.declared.request.ChallengeWords.{ChallengeWords}
 use Rattle.batch.specs.Plans.{Plan}
 use Rattle.check_judge.specs.Found.{IsPlanOf, sized_of}
 use Rattle.check_run.specs.Runs.{IsReadBatch}

@@ -2,8 +2,8 @@
 use Rattle.std.specs.Prelude.{◌≡◌, ℕ, Bool, true, List, MatchResult, Option, Result}
 use Rattle.std.specs.Io.KnownBytes.{Appends}
 use Rattle.std.specs.String.{string_bytes}
-use Rattle.lookup_words.specs.declared.refusal.WordsRefusal.{WordsRefusal}
-use Rattle.lookup_words.specs.declared.refusal.WordsRefusal.TheVariants as of_words
+use Rattle.check_words.specs.declared.refusal.WordsRefusal.{WordsRefusal}
+use Rattle.check_words.specs.declared.refusal.WordsRefusal.TheVariants as of_words
 use Rattle.check_report.specs.Told.{refusal_text}
 use Rattle.check_run.specs.Written.{AppendsFront}
 use Rattle.check_run.specs.declared.answer.Answer.{Answer}

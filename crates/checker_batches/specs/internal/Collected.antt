@@ -5,8 +5,8 @@ use Rattle.std.specs.declared.vec.Vec.{Vec}
 use Rattle.field.specs.Ring.{Ring}
 use Rattle.lookup_model.specs.declared.error.LookupError.{LookupError}
 use Rattle.lookup_model.specs.declared.error.LookupError.TheVariants.{Memory}
-use Rattle.lookup_rows.specs.SentMessages.{HasSentRows, messages_of}
-use Rattle.lookup_rows.specs.declared.messages.SentMessage.{SentMessage}
+use Rattle.lookup_messages.specs.SentMessages.{HasSentRows, messages_of}
+use Rattle.lookup_messages.specs.declared.messages.SentMessage.{SentMessage}
 use Rattle.lookup_model.specs.Batches.Faults.{IsOutOfMemory}
 use Rattle.lookup_model.specs.Batches.FlagFaults.{IsFirstFlagFault, instance_flag_faults}
 use Rattle.lookup_model.specs.Batches.Instances.{Instance}

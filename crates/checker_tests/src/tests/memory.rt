@@ -1,11 +1,11 @@
-//! Memories that `memory_check` accepts, and those that are refused, one for each refusal.
+//! Memories that `example_memory` accepts, and those that are refused, one for each refusal.
 
 use batch::BatchError;
+use example_memory::{MemoryTraces, check_memory, memory_plan};
 use field::PrimeCharacteristicRing;
 use field_monty::{BabyBear, BabyBear4};
 use lookup::LookupError;
 use matrix::RowMajorMatrix;
-use memory_check::{MemoryTraces, check_memory, memory_plan};
 use std::alloc::Global;
 use std::process::Abort;
 

@@ -1,9 +1,9 @@
 //! All 49 pairs of challenges over `F7`: what the program ends with, and whether some witness is accepted.
 use super::{alone, holds, lookup, range, trace};
 use batch::{BatchPlan, BatchTrace};
+use example_machines::run;
 use field::{F7, PrimeCharacteristicRing};
 use lookup::{Lookup, Lookups};
-use lookup_program::run;
 use matrix::RowMajorMatrix;
 use std::alloc::Global;
 use std::process::{Abort, ExitCode};

@@ -1,6 +1,6 @@
 //! Runs of the program over streams in memory: what it writes, and what comes of streams that fail. The
 //! cases at the top of the repository are further runs, of the built program.
-use lookup_program::run;
+use example_machines::run;
 use std::alloc::Global;
 use std::io;
 use std::io::{Read, Write};

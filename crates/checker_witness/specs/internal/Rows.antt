@@ -3,7 +3,7 @@ use Rattle.std.specs.Prelude.{◌≡◌, ◌<◌, ◌≤◌, ◌+◌, ◌*◌, �
 use Rattle.std.specs.List.{AllByRecursion}
 use Rattle.std.specs.Option.{ForSome, option_copied}
 use Rattle.matrix.specs.Matrix.{Matrix, height, row}
-use Rattle.expressions.specs.Window.{ExtWindow, empty_window}
+use Rattle.air_expressions.specs.Window.{ExtWindow, empty_window}
 use Rattle.air.specs.Row.{input_layout, input_window}
 use Rattle.air.specs.declared.debug.inputs.RowInputs.{RowInputs}
 use Rattle.lookup_model.specs.Constraints.{Constraint, accumulator_constraints, fraction_constraint, lookup_constraints, terminal_at}

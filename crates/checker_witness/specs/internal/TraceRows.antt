@@ -1,9 +1,9 @@
 -- A row of the traces of an AIR, as the expressions of its lookups read it.
 use Rattle.std.specs.Prelude.{◌≡◌, List, [], not, length}
 use Rattle.field.specs.Extension.{Extension}
-use Rattle.expressions.specs.Layout.{layout_of_widths}
-use Rattle.expressions.specs.Window.{ExtWindow, Window}
-use Rattle.expressions.specs.declared.layout.AirLayout.{AirLayout}
+use Rattle.air_expressions.specs.Layout.{layout_of_widths}
+use Rattle.air_expressions.specs.Window.{ExtWindow, Window}
+use Rattle.air_expressions.specs.declared.layout.AirLayout.{AirLayout}
 use Rattle.lookup_model.specs.Constraints.{fraction_left}
 use Rattle.lookup_model.specs.Denominators.{tuple_denominator}
 use Rattle.lookup_model.specs.Sent.{branches_at, flags_at}

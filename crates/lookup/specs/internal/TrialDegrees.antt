@@ -1,6 +1,6 @@
 -- What is kept of a lookup, so that its degree is known without a walk over its tuples.
 use Rattle.std.specs.Prelude.{◌≡◌, ◌^◌, ◌≤◌, ℕ, Option, None, MatchOption, length}
-use Rattle.expressions.specs.declared.base_expression.SymbolicExpression.{SymbolicExpression}
+use Rattle.air_expressions.specs.declared.base_expression.SymbolicExpression.{SymbolicExpression}
 use Rattle.lookup_model.specs.LookupDegree.{constraint_degree_of, outline_branch_degrees}
 use Rattle.lookup_model.specs.Outline.{Outline}
 use Rattle.lookup_model.specs.SumDegrees.{AreSumDegrees}

@@ -2,7 +2,7 @@
 ghost use Rattle.std.specs.Prelude.{◌≡◌, ◌<◌, ℕ, ⊤, Result, Ok, true};
 ghost use Rattle.std.specs.Borrow.{Bor};
 ghost use Rattle.std.specs.Fn.{FnReturnsAt};
-ghost use Rattle.expressions.specs.declared.base_expression.SymbolicExpression.{SymbolicExpression};
+ghost use Rattle.air_expressions.specs.declared.base_expression.SymbolicExpression.{SymbolicExpression};
 ghost use Rattle.lookup_model.specs.Outline.{Outline, fields_of};
 ghost use Rattle.lookup_model.specs.declared.error.LookupError.{LookupError};
 ghost use Rattle.lookup_model.specs.declared.types.Lookup.{Lookup};

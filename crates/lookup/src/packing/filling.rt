@@ -1,6 +1,6 @@
 //! Filling the columns of one bus.
 ghost use Rattle.std.specs.Prelude.{◌≡◌, ◌⊎◌, ◌∷◌, ◌++◌, [], List, MatchResult, None, Some, ℕ, map};
-ghost use Rattle.expressions.specs.declared.base_expression.SymbolicExpression.{SymbolicExpression};
+ghost use Rattle.air_expressions.specs.declared.base_expression.SymbolicExpression.{SymbolicExpression};
 ghost use Rattle.lookup_model.specs.Outline.{Outline, fields_of};
 ghost use Rattle.lookup.specs.Trials.{IsMember, IsTrial, IsTrialAmong};
 ghost use Rattle.lookup.specs.internal.Fillings.{IsFilled, IsOpen, columns_of};

@@ -2,7 +2,7 @@
 use Rattle.std.specs.Prelude.{◌≡◌, ◌⊎◌, ◌<◌, ◌≤◌, ◌+◌, ◌-◌, ℕ, Bool, List, [], ◌++◌, map, take, slice_get, slice_index_or, None, Option, Some, MatchOption}
 use Rattle.std.specs.List.{AllZip, flat_map, range_with_len}
 use Rattle.field.specs.Ring.{Ring}
-use Rattle.expressions.specs.Window.{Window}
+use Rattle.air_expressions.specs.Window.{Window}
 use Rattle.matrix.specs.Matrix.{Matrix, height, row}
 use Rattle.field.specs.Extension.{Extension}
 use Rattle.lookup_model.specs.Fault.{fault_of, row_faults, trace_faults}

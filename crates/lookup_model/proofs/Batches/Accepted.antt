@@ -7,17 +7,17 @@ use Rattle.std.specs.List.{AllByRecursion, AllZip, flat_map, range_with_len}
 use Rattle.std.proofs.lemmas.Grind.{flat_map-append}
 use Rattle.std.proofs.lemmas.List.FromFn.{length-range_with_len}
 use Rattle.std.proofs.lemmas.Slice.Zip.{AllZip-long}
-use Rattle.lists.proofs.Zips.{AllZip-of_one, AllZip-flat_of_one, AllZip-ranged, AllZip-at, AllZip-rows}
-use Rattle.lists.proofs.Each.{all_range, each_of}
-use Rattle.lists.proofs.Parts.{nothing_flat}
-use Rattle.lists.proofs.Images.{mapped_at}
+use Rattle.list_laws.proofs.Zips.{AllZip-of_one, AllZip-flat_of_one, AllZip-ranged, AllZip-at, AllZip-rows}
+use Rattle.list_laws.proofs.Each.{all_range, each_of}
+use Rattle.list_laws.proofs.Parts.{nothing_flat}
+use Rattle.list_laws.proofs.Images.{mapped_at}
 use Rattle.field.specs.laws.Distinct.{all_weaker}
 use Rattle.field.specs.laws.RingFacts.{same_from_difference, zero_add}
 use Rattle.field.specs.Sums.{sum_in}
 use Rattle.field.specs.Extension.{Extension, IsLawful}
 use Rattle.field.specs.Ring.{sub_in}
 use Rattle.matrix.specs.Matrix.{Matrix, height}
-use Rattle.expressions.specs.Window.{ExtWindow}
+use Rattle.air_expressions.specs.Window.{ExtWindow}
 use Rattle.lookup_model.specs.Challenges.{ChallengeTable, column_challenges}
 use Rattle.lookup_model.specs.Constraints.{accumulator_at, fraction_at, terminal_at}
 use Rattle.lookup_model.specs.Terminals.{terminal_sum, terminal_value}

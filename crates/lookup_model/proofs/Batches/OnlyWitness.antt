@@ -3,10 +3,10 @@
 use Rattle.std.proofs.Common.{◌≡◌, ◌≢◌, ℕ, ◌≤◌, Bool, true, false, ◌||◌, Option, None, Some, IfSome, List, [], ◌∷◌, length, map, refl, sym, ◌∙◌, arith, zero, suc, ◌+◌, ◌*◌, ◌-◌, ◌<◌, drop, get_or, slice_index_or, ap, subst}
 use Rattle.std.specs.List.{AllByRecursion, flat_map, range_with_len}
 use Rattle.std.proofs.lemmas.List.{ext_get_or, get_or_default, length-drop, length-map, length-take, take_all}
-use Rattle.lists.proofs.Each.{all_kept, all_here, all_indexed, all_parts, all_weaker, all_front, all_back}
-use Rattle.lists.proofs.Images.{map-map, mapped_at, same_map}
-use Rattle.lists.proofs.Items.{item_at}
-use Rattle.lists.proofs.Parts.{joined_rows, same_parts}
+use Rattle.list_laws.proofs.Each.{all_kept, all_here, all_indexed, all_parts, all_weaker, all_front, all_back}
+use Rattle.list_laws.proofs.Images.{map-map, mapped_at, same_map}
+use Rattle.list_laws.proofs.Items.{item_at}
+use Rattle.list_laws.proofs.Parts.{joined_rows, same_parts}
 use Rattle.field.specs.Ring.{sub_in}
 use Rattle.field.specs.laws.RingFacts.{domain_cancel, product_nonzero, same_from_difference}
 use Rattle.field.specs.laws.RingSolver.{var, con, ◌:+◌, ◌:-◌, ring_law}
@@ -14,7 +14,7 @@ use Rattle.field.specs.Sums.{sum_in}
 use Rattle.field.specs.Extension.{Extension, IsLawful}
 use Rattle.field.specs.laws.Distinct.{all_both}
 use Rattle.matrix.specs.Matrix.{Matrix, height, row}
-use Rattle.expressions.specs.Window.{ExtWindow, Window, window_at}
+use Rattle.air_expressions.specs.Window.{ExtWindow, Window, window_at}
 use Rattle.air.specs.Traces.{AirTraces}
 use Rattle.lookup_model.specs.Constraints.{additive_denominator, exclusive_denominator, fraction_denominator, Constraint, accumulator_at, fraction_at, fraction_constraint, fractions_at, fraction_numerator}
 use Rattle.lookup_model.specs.Fault.{are_boolean, fault_of, vanishes}

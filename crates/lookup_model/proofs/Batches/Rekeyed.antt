@@ -6,9 +6,9 @@ use Rattle.std.proofs.lemmas.List.Folds.{flat_map-map}
 use Rattle.std.specs.Prelude.{if◌then◌else◌}
 use Rattle.std.specs.Option.{option_or}
 use Rattle.std.specs.List.{AllByRecursion, AllZip, cons_option, enumerate_from, filter_map, flat_map, range_with_len}
-use Rattle.lists.proofs.Images.{get_or-image}
+use Rattle.list_laws.proofs.Images.{get_or-image}
 use Rattle.std.proofs.lemmas.Slice.Zip.{AllZip-long}
-use Rattle.lists.proofs.Zips.{AllZip-each, AllZip-filter, AllZip-flat, AllZip-same_map, AllZip-weaker}
+use Rattle.list_laws.proofs.Zips.{AllZip-each, AllZip-filter, AllZip-flat, AllZip-same_map, AllZip-weaker}
 use Rattle.field.specs.Sums.{sum_in}
 use Rattle.field.specs.Extension.{Extension, IsLawful}
 use Rattle.lookup_model.specs.Fault.{IsLawfulSelection, dividing_messages, fault_of, flag_fault_of, row_faults, trace_faults, vanishes}

@@ -1,12 +1,12 @@
 -- What solutions of equations can sum to, equation by equation.
 use Rattle.std.proofs.Common.{◌≡◌, List, [], ◌∷◌, ◌++◌, refl, sym, ap, ◌∙◌}
 use Rattle.std.specs.List.{AllZip}
-use Rattle.lists.proofs.Zips.{AllZip-parts}
+use Rattle.list_laws.proofs.Zips.{AllZip-parts}
 use Rattle.field.specs.Ring.{Ring, IsCommutativeRing}
 use Rattle.field.specs.Sums.{sum_in}
 use Rattle.lookup_model.proofs.SumLaws.{sum_in-append}
 use Rattle.lookup_model.specs.internal.Equations.{CanSumTo, Equation, Solves}
-use Rattle.lists.proofs.Zips.{AllZip-append}
+use Rattle.list_laws.proofs.Zips.{AllZip-append}
 
 module _ {K : Type 0} {S : Ring K} (laws : IsCommutativeRing S) where
   -- equations of two lists together sum to a sum of the one and a sum of the other

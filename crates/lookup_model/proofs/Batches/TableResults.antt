@@ -4,12 +4,12 @@ use Rattle.std.proofs.Common.{◌≡◌, ℕ, zero, suc, ◌+◌, ◌*◌, ◌<�
 use Rattle.std.specs.List.{AllZip, filter, range_with_len, zip, slice_get}
 use Rattle.std.specs.declared.alloc.Global.{Global}
 use Rattle.std.specs.declared.vec.Vec.{Vec}
-use Rattle.lists.proofs.Zips.{AllZip-filter, AllZip-images, AllZip-of_one, AllZip-weaker, AllZip-zip}
-use Rattle.lists.proofs.Each.{all_indexed, each_of}
+use Rattle.list_laws.proofs.Zips.{AllZip-filter, AllZip-images, AllZip-of_one, AllZip-weaker, AllZip-zip}
+use Rattle.list_laws.proofs.Each.{all_indexed, each_of}
 use Rattle.field.specs.Extension.{Extension, IsLawful}
 use Rattle.matrix.specs.Matrix.{height, Matrix}
-use Rattle.expressions.specs.Window.{Window}
-use Rattle.expressions.specs.declared.base_expression.SymbolicExpression.{SymbolicExpression}
+use Rattle.air_expressions.specs.Window.{Window}
+use Rattle.air_expressions.specs.declared.base_expression.SymbolicExpression.{SymbolicExpression}
 use Rattle.air.specs.Traces.{window_of}
 use Rattle.lookup_model.specs.Denominators.{key_denominator, tuple_denominator}
 use Rattle.lookup_model.specs.Message.{Key, Message}

@@ -2,9 +2,9 @@
 use Rattle.std.proofs.Common.{◌≡◌, not, List, [], ◌∷◌, ◌++◌, map, refl, sym, ap, ◌∙◌}
 use Rattle.std.proofs.lemmas.List.{map-append}
 use Rattle.std.specs.List.{flat_map, range_with_len}
-use Rattle.lists.proofs.Each.{all_images, each_of}
-use Rattle.lists.proofs.Images.{filter_none}
-use Rattle.lists.proofs.Parts.{nothing_flat}
+use Rattle.list_laws.proofs.Each.{all_images, each_of}
+use Rattle.list_laws.proofs.Images.{filter_none}
+use Rattle.list_laws.proofs.Parts.{nothing_flat}
 use Rattle.field.specs.Sums.{sum_in}
 use Rattle.matrix.specs.Matrix.{height}
 use Rattle.air.specs.Traces.{window_of}

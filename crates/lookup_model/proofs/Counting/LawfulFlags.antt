@@ -1,7 +1,7 @@
 -- Where flags have no fault they are lawful.
 use Rattle.std.proofs.Common.{◌≡◌, ℕ, Bool, ◌+◌, zero, suc, Option, None, Some, List, [], ◌∷◌, refl}
 use Rattle.std.specs.List.{AllByRecursion, enumerate_from, filter_map, flat_map, slice_get}
-use Rattle.lists.proofs.Items.{both_empty, none_before}
+use Rattle.list_laws.proofs.Items.{both_empty, none_before}
 use Rattle.field.specs.Ring.{Ring}
 use Rattle.field.specs.Extension.{Extension}
 use Rattle.lookup_model.specs.Fault.{fault_of, faults_of_row, trace_faults}

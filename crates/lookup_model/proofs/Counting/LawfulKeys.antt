@@ -6,12 +6,12 @@ use Rattle.std.proofs.lemmas.List.Elements.{recursion_from_All}
 use Rattle.std.specs.List.{AllByRecursion, flat_map, range_with_len, zip}
 use Rattle.std.specs.declared.alloc.Global.{Global}
 use Rattle.std.specs.declared.vec.Vec.{Vec}
-use Rattle.lists.proofs.Each.{all_front, all_back, all_both, all_indexed, all_kept, all_joined, all_images, each_of}
+use Rattle.list_laws.proofs.Each.{all_front, all_back, all_both, all_indexed, all_kept, all_joined, all_images, each_of}
 use Rattle.field.specs.Ring.{Ring}
 use Rattle.matrix.specs.Matrix.{height}
-use Rattle.expressions.specs.Window.{Window}
+use Rattle.air_expressions.specs.Window.{Window}
 use Rattle.air.specs.Traces.{window_of}
-use Rattle.expressions.specs.declared.base_expression.SymbolicExpression.{SymbolicExpression}
+use Rattle.air_expressions.specs.declared.base_expression.SymbolicExpression.{SymbolicExpression}
 use Rattle.lookup_model.specs.Message.{Message, same_key}
 use Rattle.lookup_model.specs.Net.{first_seen, keys}
 use Rattle.lookup_model.specs.Plain.{trace_messages}

@@ -3,8 +3,8 @@ use Rattle.std.proofs.Common.{◌≡◌, ℕ, zero, suc, ◌+◌, ◌-◌, ◌<�
 use Rattle.std.proofs.lemmas.Bool.{cases_lt, eq-eqb, ne_eqb}
 use Rattle.std.specs.List.{flat_map, range_with_len}
 use Rattle.std.specs.Option.{is_some}
-use Rattle.lists.proofs.Each.{each_of}
-use Rattle.lists.proofs.Parts.{nothing_flat}
+use Rattle.list_laws.proofs.Each.{each_of}
+use Rattle.list_laws.proofs.Parts.{nothing_flat}
 use Rattle.matrix.specs.Matrix.{Matrix, height, row}
 use Rattle.air.specs.Traces.{AirTraces}
 use Rattle.field.specs.Extension.{Extension, IsLawful}

@@ -3,8 +3,8 @@
 use Rattle.std.proofs.Common.{◌≡◌, Bool, true, false, cond, not, ◌||◌, List, [], ◌∷◌, refl, sym, ap, ◌∙◌, Decides, map}
 use Rattle.std.proofs.lemmas.Bool.{false≢true, not-true, true≢false}
 use Rattle.std.specs.List.{filter, list_any, AllByRecursion}
-use Rattle.lists.proofs.Each.{all_kept, filter_passes, all_weaker, each_of}
-use Rattle.lists.proofs.Images.{map_same}
+use Rattle.list_laws.proofs.Each.{all_kept, filter_passes, all_weaker, each_of}
+use Rattle.list_laws.proofs.Images.{map_same}
 use Rattle.field.specs.Ring.{Ring, IsCommutativeRing}
 use Rattle.field.specs.laws.RingFacts.{zero_add}
 use Rattle.field.specs.Sums.{sum_in}

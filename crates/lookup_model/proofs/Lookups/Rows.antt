@@ -4,7 +4,7 @@ use Rattle.std.proofs.lemmas.List.{append-nil, take_more}
 use Rattle.std.proofs.lemmas.List.Elements.{filter_map-append}
 use Rattle.std.proofs.lemmas.Grind.{flat_map-append}
 use Rattle.std.specs.List.{enumerate_from, filter_map, cons_option, flat_map, slice_get}
-use Rattle.lists.proofs.Items.{enumerate_from-append, first_stays}
+use Rattle.list_laws.proofs.Items.{enumerate_from-append, first_stays}
 use Rattle.field.specs.Sums.{sum_in}
 use Rattle.field.specs.Extension.{Extension, IsLawful}
 use Rattle.lookup_model.specs.Fault.{faults_of_row, faults_of_trace}

@@ -5,14 +5,14 @@ use Rattle.std.proofs.Math.Nat.{mod-eq_of_lt}
 use Rattle.std.proofs.lemmas.Bool.{eqb-true, eqb-false, not-true}
 use Rattle.std.proofs.lemmas.List.{ext_get_or, get_or_default, length-map}
 use Rattle.std.specs.List.{AllByRecursion, flat_map, range_with_len}
-use Rattle.lists.proofs.Each.{all_both, all_images, all_indexed}
-use Rattle.lists.proofs.Images.{mapped_at}
-use Rattle.lists.proofs.Items.{item_at}
-use Rattle.lists.proofs.Parts.{length_rows, row_of_parts}
+use Rattle.list_laws.proofs.Each.{all_both, all_images, all_indexed}
+use Rattle.list_laws.proofs.Images.{mapped_at}
+use Rattle.list_laws.proofs.Items.{item_at}
+use Rattle.list_laws.proofs.Parts.{length_rows, row_of_parts}
 use Rattle.field.specs.Extension.{Extension, IsLawful}
 use Rattle.field.specs.Sums.{sum_in}
 use Rattle.matrix.specs.Matrix.{Matrix, height, row}
-use Rattle.expressions.specs.Window.{ExtWindow}
+use Rattle.air_expressions.specs.Window.{ExtWindow}
 use Rattle.air.specs.Traces.{AirTraces}
 use Rattle.lookup_model.specs.Constraints.{Constraint, accumulator_at, accumulator_constraints, first_constraint, transition_constraint, last_constraint, fraction_at, fraction_constraint, fractions_at, terminal_at}
 use Rattle.lookup_model.specs.Records.{AreRecords}

@@ -7,14 +7,14 @@ use Rattle.std.specs.declared.alloc.Global.{Global}
 use Rattle.std.specs.declared.vec.Vec.{Vec}
 use Rattle.std.proofs.lemmas.List.{length-map}
 use Rattle.std.specs.Option.{ForSome, option_map}
-use Rattle.lists.proofs.Images.{map-map}
+use Rattle.list_laws.proofs.Images.{map-map}
 use Rattle.field.specs.Ring.{Ring, IsCommutativeRing, sub_in}
 use Rattle.field.specs.laws.RingFacts.{mul_zero, one_mul, zero_add, zero_mul}
 use Rattle.field.specs.laws.RingSolver.{var, con, ◌:*◌, ◌:+◌, ring_given, ◌:-◌, ring_law}
 use Rattle.field.specs.Sums.{product_in, sum_in, taken_out}
 use Rattle.field.specs.Extension.{Extension, IsLawful}
-use Rattle.expressions.specs.Window.{Window}
-use Rattle.expressions.specs.declared.base_expression.SymbolicExpression.{SymbolicExpression}
+use Rattle.air_expressions.specs.Window.{Window}
+use Rattle.air_expressions.specs.declared.base_expression.SymbolicExpression.{SymbolicExpression}
 use Rattle.lookup_model.specs.Constraints.{fraction_left, exclusive_numerator, flagged_denominators}
 use Rattle.lookup_model.specs.Denominators.{column_denominator, key_denominator}
 use Rattle.lookup_model.specs.Fault.{vanishes, are_boolean, fault_of}

@@ -2,8 +2,8 @@
 use Rattle.std.proofs.Common.{◌≡◌, ℕ, ◌+◌, ◌<◌, None, Some, List, [], ◌∷◌, ◌++◌, length, map, take, drop, get_or, refl, sym, ap, subst, ◌∙◌, arith}
 use Rattle.std.proofs.lemmas.List.{get_or_default, length-map, length-take, take_all}
 use Rattle.std.specs.List.{cons_option, flat_map, range_with_len}
-use Rattle.lists.proofs.Images.{map-map, mapped_at}
-use Rattle.lists.proofs.Items.{both_empty, none_before, split_at}
+use Rattle.list_laws.proofs.Images.{map-map, mapped_at}
+use Rattle.list_laws.proofs.Items.{both_empty, none_before, split_at}
 use Rattle.field.specs.Sums.{sum_in}
 use Rattle.matrix.specs.Matrix.{Matrix, height}
 use Rattle.air.specs.Traces.{AirTraces, window_of}

@@ -5,7 +5,7 @@ use Rattle.std.proofs.lemmas.List.{map-append}
 use Rattle.std.proofs.lemmas.List.Elements.{filter-append}
 use Rattle.std.proofs.lemmas.List.Folds.{list_all-append}
 use Rattle.std.specs.List.{enumerate_from, filter, list_all, zip}
-use Rattle.lists.proofs.Items.{enumerate_from-append}
+use Rattle.list_laws.proofs.Items.{enumerate_from-append}
 use Rattle.field.specs.Ring.{IsDomain, Ring}
 use Rattle.lookup_model.specs.Fault.{are_boolean, set_indices}
 use Rattle.lookup_model.specs.Sent.{chosen_branches}

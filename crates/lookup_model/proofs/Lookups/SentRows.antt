@@ -4,8 +4,8 @@ use Rattle.std.proofs.lemmas.List.{length-map}
 use Rattle.std.proofs.lemmas.List.FromFn.{get_or-map-range_with_len, length-map-range_with_len}
 use Rattle.std.proofs.lemmas.Option.{slice_get_read}
 use Rattle.std.specs.List.{AllByRecursion}
-use Rattle.lists.proofs.Each.{all_here}
-use Rattle.lists.proofs.Images.{mapped_at}
+use Rattle.list_laws.proofs.Each.{all_here}
+use Rattle.list_laws.proofs.Images.{mapped_at}
 use Rattle.field.specs.Extension.{Extension, IsLawful}
 use Rattle.field.specs.Ring.{Ring}
 use Rattle.field.specs.Sums.{sum_in}

@@ -3,7 +3,7 @@ use Rattle.std.proofs.Common.{◌≡◌, false, not, List, [], ◌∷◌, map, r
 use Rattle.std.proofs.lemmas.Bool.{not-false}
 use Rattle.std.proofs.lemmas.List.{map-append}
 use Rattle.std.specs.List.{flat_map}
-use Rattle.lists.proofs.Each.{all_of_map}
+use Rattle.list_laws.proofs.Each.{all_of_map}
 use Rattle.field.specs.laws.RingFacts.{zero_mul, add_mul}
 use Rattle.field.specs.Sums.{sum_in}
 use Rattle.field.specs.Extension.{Extension, IsLawful}

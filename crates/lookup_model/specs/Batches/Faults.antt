@@ -1,6 +1,6 @@
 -- The faults that generation can meet in a batch.
 use Rattle.std.specs.Prelude.{◌≡◌, ◌≢◌, ◌⊎◌, ℕ, List, [], None, Some, slice_get}
-use Rattle.expressions.specs.Faults.{HasFirstFault}
+use Rattle.air_expressions.specs.Faults.{HasFirstFault}
 use Rattle.lookup_model.specs.Challenges.{ChallengeTable, table_key_denominator}
 use Rattle.field.specs.Extension.{Extension}
 use Rattle.lookup_model.specs.Fault.{trace_faults}

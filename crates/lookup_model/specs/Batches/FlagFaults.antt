@@ -1,6 +1,6 @@
 -- The faults that counting can meet in a batch: those of flags.
 use Rattle.std.specs.Prelude.{◌≡◌, Bool, List, []}
-use Rattle.expressions.specs.Faults.{HasFirstFault}
+use Rattle.air_expressions.specs.Faults.{HasFirstFault}
 use Rattle.field.specs.Ring.{Ring}
 use Rattle.lookup_model.specs.FlagFault.{trace_flag_faults}
 use Rattle.lookup_model.specs.declared.error.LookupError.{LookupError}

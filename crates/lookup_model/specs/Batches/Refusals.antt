@@ -3,7 +3,7 @@
 use Rattle.std.specs.Prelude.{◌≡◌, ◌≢◌, ◌<◌, ◌⊎◌, ℕ, List, Some, map, slice_get}
 use Rattle.std.specs.Option.{is_some}
 use Rattle.matrix.specs.Matrix.{height}
-use Rattle.expressions.specs.Faults.{FailsFirstAt}
+use Rattle.air_expressions.specs.Faults.{FailsFirstAt}
 use Rattle.air.specs.Traces.{height_of}
 use Rattle.lookup_model.specs.Challenges.{ChallengeTable, column_challenges}
 use Rattle.field.specs.Extension.{Extension}

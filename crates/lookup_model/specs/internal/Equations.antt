@@ -3,7 +3,7 @@ use Rattle.std.specs.Prelude.{◌≡◌, ℕ, List, [], map}
 use Rattle.std.specs.List.{AllZip, flat_map, range_with_len}
 use Rattle.field.specs.Ring.{Ring}
 use Rattle.field.specs.Sums.{sum_in}
-use Rattle.expressions.specs.Window.{ExtWindow}
+use Rattle.air_expressions.specs.Window.{ExtWindow}
 use Rattle.air.specs.Traces.{height_of, window_of}
 use Rattle.lookup_model.specs.Challenges.{ChallengeTable, column_challenges}
 use Rattle.lookup_model.specs.Constraints.{fraction_denominator, fraction_numerator}

@@ -2,8 +2,8 @@
 use super::debug::{has_fitting_lookups, has_one_height, instance, on_bus, with_count};
 use super::{alone, holds, trace};
 use field::{F2, F7, Field, PrimeCharacteristicRing};
+use field_goldilocks::Goldilocks;
 use field_monty::{BabyBear, KoalaBear};
-use goldilocks::Goldilocks;
 use lookup::Lookup;
 use lookup::debug_util::{
     BusGroup, GroupName, LookupDebugInstance, Mismatch, Place, SignedField, UnbalancedTuple,

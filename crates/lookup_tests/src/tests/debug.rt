@@ -1,7 +1,7 @@
 //! The debug check: which tuple is named first, with what net, and where.
 ghost use Rattle.std.specs.Prelude.{◌≡◌, ◌↔◌, IsTrue};
 ghost use Rattle.std.specs.Option.{ForSome, option_copied};
-ghost use Rattle.expressions.specs.Layout.{layout_of_traces};
+ghost use Rattle.air_expressions.specs.Layout.{layout_of_traces};
 ghost use Rattle.lookup_model.specs.Records.{LookupsFit};
 ghost use Rattle.matrix.specs.Matrix.{height};
 

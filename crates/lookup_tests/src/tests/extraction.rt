@@ -1,7 +1,7 @@
 //! Lookups of AIRs that push what a test asks for.
 ghost use Rattle.std.specs.Prelude.{◌≡◌, ◌<◌, All, IfOk, OnOk};
-ghost use Rattle.expressions.specs.StaysWithin.{StaysWithin};
-ghost use Rattle.expressions.specs.declared.layout.AirLayout.{AirLayout};
+ghost use Rattle.air_expressions.specs.StaysWithin.{StaysWithin};
+ghost use Rattle.air_expressions.specs.declared.layout.AirLayout.{AirLayout};
 ghost use Rattle.lookup_record.specs.Within.{KeyWithin};
 
 use super::{holds, is_on, one, text};

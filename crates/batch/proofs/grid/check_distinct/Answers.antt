@@ -1,12 +1,12 @@
 use Rattle.std.proofs.Common.{◌≡◌, ◌+◌, inr, true, false, take, refl, sym, ap, subst, ◌∙◌, ◌≢◌, ◌↔◌, ℕ, zero, suc, Bool, IsTrue, if◌then◌else◌, List, [], ◌∷◌, ◌++◌}
 use Rattle.std.proofs.lemmas.Bool.{not-false, not-true}
 use Rattle.std.specs.List.{list_any, AllByRecursion}
-use Rattle.lists.proofs.Items.{take_item}
+use Rattle.list_laws.proofs.Items.{take_item}
 use Rattle.field.specs.Distinct.{IsDistinct}
 use Rattle.indexmap.specs.IndexSet.{insert_key}
 use Rattle.std.proofs.lemmas.List.Elements.{All-contains, All-from_recursion}
 use Rattle.std.proofs.lemmas.Map.Views.{Contains-from_any}
-use Rattle.lists.proofs.Each.{all_back, all_both, all_take, all_weaker, none_any}
+use Rattle.list_laws.proofs.Each.{all_back, all_both, all_take, all_weaker, none_any}
 use Rattle.batch.proofs.grid.check_distinct.Goals as goal
 
 module _ {A : Type 0} where

@@ -1,6 +1,6 @@
 use Rattle.std.proofs.Common.{◌+◌, ◌≤◌, List, length, take, sym, subst, arith}
 use Rattle.std.proofs.lemmas.List.{length-take}
-use Rattle.lists.proofs.Items.{take_item}
+use Rattle.list_laws.proofs.Items.{take_item}
 use Rattle.field.specs.laws.Extension.{of_laws}
 use Rattle.lookup_model.specs.Batches.Counts.{IsAccepting}
 use Rattle.lookup_model.specs.Batches.Instances.{instances_of}

@@ -1,5 +1,5 @@
 use Rattle.std.proofs.Common.{List, subst}
-use Rattle.lists.proofs.Zips.{AllZip-more_right}
+use Rattle.list_laws.proofs.Zips.{AllZip-more_right}
 use Rattle.lookup.specs.Lookups.{lookups_of}
 use Rattle.batch.specs.Reaches.{IsReachOf}
 use Rattle.batch.proofs.reach.reaches_of.Goals as goal

@@ -8,7 +8,7 @@ use Rattle.field.specs.Ring.{of_nat}
 use Rattle.air.specs.Traces.{air_traces}
 use Rattle.language_meaning.specs.Tables.{tables_of}
 use Rattle.language_meaning.specs.Lookups.{said_by_items, said_of}
-use Rattle.lookup_text.specs.Batches.{air_of, section_of}
+use Rattle.language.specs.Batches.{air_of, section_of}
 use Rattle.check_judge.specs.Said.{names_over, traces_in}
 use Rattle.check_judge.proofs.CauseLaws.{whole_table}
 use Rattle.check_judge.proofs.airs.air_over.Goals as goal

@@ -3,7 +3,7 @@ use Rattle.std.proofs.lemmas.List.{length-map, map_push}
 use Rattle.std.proofs.lemmas.Result.{err_from_is_err_and}
 use Rattle.language_meaning.specs.Shapes.{shape_of}
 use Rattle.language_meaning.specs.Lookups.{said_by_items, said_of}
-use Rattle.lookup_text.specs.Batches.{air_of, section_of}
+use Rattle.language.specs.Batches.{air_of, section_of}
 use Rattle.check_judge.specs.Said.{airs_of, names_over}
 use Rattle.check_judge.proofs.AirLaws.{all_say, go_on_saying, image_next, next_air}
 use Rattle.check_judge.proofs.CauseLaws.{name_fault, name_refused, refuses_names}

@@ -1,7 +1,7 @@
 use Rattle.std.proofs.Common.{map}
 use Rattle.language_meaning.specs.Shapes.{shape_of}
 use Rattle.language_meaning.specs.Lookups.{said_of}
-use Rattle.lookup_text.specs.Batches.{section_of}
+use Rattle.language.specs.Batches.{section_of}
 use Rattle.check_judge.specs.Said.{airs_of}
 use Rattle.check_judge.proofs.AirLaws.{GoOnSaying}
 use Rattle.check_judge.proofs.CauseLaws.{RefusesNames}

@@ -1,5 +1,5 @@
 use Rattle.std.proofs.Common.{◌≡◌, ◌++◌, drop, map}
-use Rattle.lookup_text.specs.Batches.{air_of, section_of}
+use Rattle.language.specs.Batches.{air_of, section_of}
 use Rattle.check_judge.specs.Said.{airs_of}
 use Rattle.check_judge.proofs.airs.airs_of.Given as goal
 

@@ -4,7 +4,7 @@ use Rattle.std.proofs.lemmas.List.Elements.{All-push, All-same}
 use Rattle.std.proofs.lemmas.Result.{err_from_is_err_and}
 use Rattle.field.specs.Ring.{of_nat}
 use Rattle.language_meaning.specs.Tables.{tables_of}
-use Rattle.lookup_text.specs.Batches.{air_of, section_of}
+use Rattle.language.specs.Batches.{air_of, section_of}
 use Rattle.check_judge.specs.Said.{airs_of}
 use Rattle.check_judge.specs.Airs.{IsFittingAir, over_traced}
 use Rattle.check_judge.proofs.AirLaws.{all_gone, goes_on, image_next, next_air}

@@ -1,7 +1,7 @@
 use Rattle.std.proofs.Common.{map}
 use Rattle.field.specs.Ring.{of_nat}
 use Rattle.language_meaning.specs.Tables.{tables_of}
-use Rattle.lookup_text.specs.Batches.{section_of}
+use Rattle.language.specs.Batches.{section_of}
 use Rattle.check_judge.specs.Said.{airs_of}
 use Rattle.check_judge.specs.Airs.{AreFittingAirs, over_traced}
 use Rattle.check_judge.proofs.AirLaws.{GoesOn}

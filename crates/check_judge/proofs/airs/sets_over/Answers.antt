@@ -3,7 +3,7 @@ use Rattle.std.proofs.lemmas.List.{length-map}
 use Rattle.std.proofs.lemmas.Result.{err_from_is_err_and}
 use Rattle.std.specs.List.{AllZip, take-map}
 use Rattle.field.specs.Ring.{of_nat}
-use Rattle.lists.proofs.Zips.{AllZip-images, AllZip-more}
+use Rattle.list_laws.proofs.Zips.{AllZip-images, AllZip-more}
 use Rattle.lookup.specs.Lookups.{lookups_of}
 use Rattle.check_judge.specs.Causes.{IsElementRefusal}
 use Rattle.check_judge.specs.Said.{AreLookupsOf}

@@ -8,7 +8,7 @@ use Rattle.lookup_debug.specs.BusTable.{row_of}
 use Rattle.lookup_debug.specs.Contributions.{Traced, traced_of}
 use Rattle.field.specs.Signs.{is_negative}
 use Rattle.language_meaning.specs.Tables.{tables_of}
-use Rattle.lookup_text.specs.Batches.{section_of}
+use Rattle.language.specs.Batches.{section_of}
 use Rattle.check_judge.specs.Causes.{IsReportRefusal}
 use Rattle.check_judge.specs.Found.{IsPlanOf, sized_of}
 use Rattle.check_judge.specs.Said.{airs_of}

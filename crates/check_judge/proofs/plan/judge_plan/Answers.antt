@@ -5,11 +5,11 @@ use Rattle.std.proofs.lemmas.Result.{MatchResult-weaker, err_from_is_err_and}
 use Rattle.std.proofs.lemmas.Slice.Zip.{AllZip-long}
 use Rattle.batch.specs.Runs.{plan_of}
 use Rattle.field.specs.Ring.{of_nat}
-use Rattle.lists.proofs.Zips.{AllZip-images}
+use Rattle.list_laws.proofs.Zips.{AllZip-images}
 use Rattle.lookup.specs.Lookups.{lookups_of}
 use Rattle.language_meaning.specs.Shapes.{shape_of}
 use Rattle.language_meaning.specs.Lookups.{said_of}
-use Rattle.lookup_text.specs.Batches.{section_of}
+use Rattle.language.specs.Batches.{section_of}
 use Rattle.check_judge.specs.Causes.{IsPlanningRefusal, IsReportRefusal}
 use Rattle.check_judge.specs.Found.{IsPlanOf, sized_over}
 use Rattle.check_judge.specs.Said.{AreLookupsOf, airs_of}

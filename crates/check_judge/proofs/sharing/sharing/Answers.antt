@@ -1,6 +1,6 @@
 use Rattle.std.proofs.Common.{◌≡◌, ◌<◌, ◌≤◌, ◌+◌, ◌∷◌, [], ℕ, Some, List, drop, get_or, length, map, slice_get, take, leb-false, leb-true, sym, subst, ◌∙◌, arith}
 use Rattle.std.proofs.lemmas.List.{drop_all, drop_more, length-map, map-append, take-append-drop}
-use Rattle.lists.proofs.Each.{all_back}
+use Rattle.list_laws.proofs.Each.{all_back}
 use Rattle.std.specs.List.{AllByRecursion}
 use Rattle.check_judge.specs.declared.sharing.LookupTuples.{LookupTuples}
 use Rattle.check_judge.proofs.CutLaws.{AreCutSoFar, all_closed, closes, held, none_cut, none_there, one_left, size_there, stays_open}

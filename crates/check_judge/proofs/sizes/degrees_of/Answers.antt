@@ -1,6 +1,6 @@
 use Rattle.std.proofs.Common.{◌≡◌, ◌<◌, get_or, inr, length, subst}
 use Rattle.std.proofs.lemmas.Result.{err_from_is_err_and}
-use Rattle.lists.proofs.Items.{item_there}
+use Rattle.list_laws.proofs.Items.{item_there}
 use Rattle.lookup.specs.Lookups.{lookups_of}
 use Rattle.check_judge.proofs.sizes.degrees_of.Goals as goal
 

@@ -1,8 +1,8 @@
 use Rattle.std.proofs.Common.{◌≡◌, ◌∙◌, ap, arith, inl, inr, map, subst, sym, take}
 use Rattle.std.proofs.lemmas.List.{length-map}
 use Rattle.std.specs.List.{AllZip, take-map}
-use Rattle.lists.proofs.Each.{all_here, all_of_map}
-use Rattle.lists.proofs.Zips.{AllZip-more}
+use Rattle.list_laws.proofs.Each.{all_here, all_of_map}
+use Rattle.list_laws.proofs.Zips.{AllZip-more}
 use Rattle.lookup_model.specs.Outline.{outline_of}
 use Rattle.lookup_model.specs.declared.error.LookupError.{LookupError}
 use Rattle.check_judge.specs.Causes.{IsPackingRefusal}

@@ -3,7 +3,7 @@ use Rattle.field.specs.Ring.{of_nat}
 use Rattle.field_words.specs.Fields.{run_fields}
 use Rattle.language_meaning.specs.Files.{named_of}
 use Rattle.language_meaning.specs.Tables.{TablesOf, all_tables, tables_of}
-use Rattle.lookup_text.specs.Batches.{Section, section_of}
+use Rattle.language.specs.Batches.{Section, section_of}
 use Rattle.check_judge.specs.Causes.{IsJudgeRefusal}
 use Rattle.check_judge.specs.Said.{AreSaid, airs_of}
 use Rattle.check_judge.specs.declared.fault.JudgeFault.{JudgeFault}

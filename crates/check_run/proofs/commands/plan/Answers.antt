@@ -2,7 +2,7 @@ use Rattle.std.proofs.Common.{◌≡◌, ◌⊎◌, ◌∙◌, ◌↔◌, IsTrue
 use Rattle.field_words.specs.Fields.{run_fields}
 use Rattle.language_meaning.specs.Files.{named_of}
 use Rattle.language_meaning.specs.Shapes.{Shape, all_shapes, shape_of}
-use Rattle.lookup_text.specs.Batches.{Section, section_of}
+use Rattle.language.specs.Batches.{Section, section_of}
 use Rattle.check_judge.specs.Bits.{MeetsTarget, challenges_of}
 use Rattle.check_judge.specs.Causes.{IsPlanJudgeRefusal}
 use Rattle.check_judge.specs.Found.{sized_over}

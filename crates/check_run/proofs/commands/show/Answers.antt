@@ -3,7 +3,7 @@ use Rattle.field.specs.Ring.{of_nat}
 use Rattle.language_meaning.specs.Files.{named_of}
 use Rattle.language_meaning.specs.Shapes.{all_shapes, shape_of}
 use Rattle.language_meaning.specs.Lookups.{said_of}
-use Rattle.lookup_text.specs.Batches.{section_of}
+use Rattle.language.specs.Batches.{section_of}
 use Rattle.check_judge.specs.Causes.{IsFirstElementRefusal, IsSayingRefusal}
 use Rattle.check_judge.specs.Said.{SayOver, airs_of}
 use Rattle.check_judge.proofs.CauseLaws.{memory_or_not}

@@ -2,7 +2,7 @@ use Rattle.std.proofs.Common.{◌≡◌, ◌⊎◌, ◌∙◌, ap, inl, inr, map
 use Rattle.field.specs.Ring.{of_nat}
 use Rattle.language_meaning.specs.Files.{named_of}
 use Rattle.language_meaning.specs.Tables.{all_tables, tables_of}
-use Rattle.lookup_text.specs.Batches.{section_of}
+use Rattle.language.specs.Batches.{section_of}
 use Rattle.check_judge.specs.Causes.{HasNoPlan}
 use Rattle.check_judge.specs.declared.fault.JudgeFault.TheVariants as fault
 use Rattle.check_run.proofs.RunRefusalLaws.{read_refused}

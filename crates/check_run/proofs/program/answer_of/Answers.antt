@@ -1,8 +1,8 @@
 use Rattle.std.proofs.Common.{inl, inr, map, refl, subst}
 use Rattle.std.proofs.lemmas.Result.{MatchResult-weaker}
 use Rattle.std.specs.String.{string_bytes}
-use Rattle.lookup_words.specs.Line.{line_app}
-use Rattle.lookup_words.specs.Words.{IsRefused}
+use Rattle.check_words.specs.Line.{line_app}
+use Rattle.check_words.specs.Words.{IsRefused}
 use Rattle.check_run.proofs.TellLaws.{told_words}
 use Rattle.check_run.proofs.program.answer_of.Goals as goal
 

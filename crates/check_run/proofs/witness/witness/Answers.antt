@@ -2,7 +2,7 @@ use Rattle.std.proofs.Common.{◌∙◌, ◌++◌, ap, inl, inr, map, refl}
 use Rattle.batch.specs.Runs.{plan_of, run_of}
 use Rattle.batch.specs.Traces.{view_of}
 use Rattle.lookup_model.specs.Batches.Witnesses.{results_of}
-use Rattle.witness_text.specs.Lines.{witness_lines}
+use Rattle.language_witness.specs.Lines.{witness_lines}
 use Rattle.check_judge.specs.Airs.{over_traced}
 use Rattle.check_judge.proofs.CauseLaws.{kept_refusal}
 use Rattle.check_run.proofs.OpenedLaws.{read_run}

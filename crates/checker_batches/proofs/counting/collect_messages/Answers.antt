@@ -1,6 +1,6 @@
 use Rattle.std.proofs.Common.{Some, inl, inr, sym, ap, ◌∙◌, arith}
 use Rattle.std.proofs.lemmas.List.{length-map}
-use Rattle.lists.proofs.Images.{mapped_at}
+use Rattle.list_laws.proofs.Images.{mapped_at}
 use Rattle.lookup_model.specs.Batches.Instances.{instance_of, instances_of}
 use Rattle.checker_batches.proofs.CountLaws.{all_messages, messages_more}
 use Rattle.checker_witness.proofs.InstanceLaws.{instance_there}

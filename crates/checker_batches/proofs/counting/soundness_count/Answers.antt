@@ -3,7 +3,7 @@ use Rattle.std.proofs.lemmas.Result.{MatchResult-weaker}
 use Rattle.field.specs.Characteristic.{HasCharacteristic}
 use Rattle.field.specs.laws.Extension.{of_laws}
 use Rattle.lookup_model.specs.Net.{keys, unbalanced_keys}
-use Rattle.lookup_rows.specs.SentMessages.{messages_of}
+use Rattle.lookup_messages.specs.SentMessages.{messages_of}
 use Rattle.lookup_model.specs.Batches.Counts.{message_count, unbalanced_count}
 use Rattle.lookup_model.specs.Batches.Instances.{instances_of}
 use Rattle.lookup_model.specs.Batches.Messages.{AreFlagsLawful}

@@ -1,15 +1,15 @@
 use Rattle.std.proofs.Common.{◌≡◌, ℕ, ◌+◌, ◌-◌, ◌++◌, [], length, ap, subst, sym, ◌∙◌, arith}
 use Rattle.std.specs.List.{flat_map, range_with_len}
-use Rattle.lists.proofs.Parts.{flat_more}
+use Rattle.list_laws.proofs.Parts.{flat_more}
 use Rattle.air.specs.Traces.{height_of, layout_of}
-use Rattle.expressions.specs.Window.{ExtWindow}
+use Rattle.air_expressions.specs.Window.{ExtWindow}
 use Rattle.lookup_model.specs.Challenges.{table_of}
 use Rattle.field.specs.laws.Extension.{of_laws}
 use Rattle.lookup_model.specs.Records.{LookupsFit}
 use Rattle.lookup_model.specs.internal.Equations.{challenged_window, row_equations}
 use Rattle.lookup_model.specs.Batches.Instances.{instance_of}
-use Rattle.lookup_rows.proofs.Layouts.{LookupsFit-with_challenges}
-use Rattle.lookup_rows.specs.TraceBuilder.{ext_builder_window}
+use Rattle.lookup_messages.proofs.Layouts.{LookupsFit-with_challenges}
+use Rattle.lookup_messages.specs.TraceBuilder.{ext_builder_window}
 use Rattle.checker_batches.specs.internal.Sums.{AreSums}
 use Rattle.checker_batches.proofs.SumWalk.{flat_parts, sums_further, sums_kept, sums_stay}
 use Rattle.checker_batches.proofs.existence.with_air_equations.Goals as goal

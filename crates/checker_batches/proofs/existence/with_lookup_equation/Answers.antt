@@ -1,6 +1,6 @@
 use Rattle.std.proofs.Common.{◌++◌, ◌∷◌, [], refl, subst}
 use Rattle.lookup_model.specs.internal.Equations.{Equation}
-use Rattle.lookup_rows.specs.TraceBuilder.{ext_builder_window}
+use Rattle.lookup_messages.specs.TraceBuilder.{ext_builder_window}
 use Rattle.checker_batches.specs.internal.Sums.{AreSums}
 use Rattle.checker_batches.proofs.existence.with_lookup_equation.Goals as goal
 

@@ -1,12 +1,12 @@
 use Rattle.std.proofs.Common.{List, ◌+◌, ◌++◌, ◌∷◌, [], drop, subst, sym, take, arith}
 use Rattle.std.proofs.lemmas.List.{length-map, take-append-drop, take_all}
-use Rattle.lists.proofs.Images.{mapped_more}
-use Rattle.lists.proofs.Each.{All-at}
+use Rattle.list_laws.proofs.Images.{mapped_more}
+use Rattle.list_laws.proofs.Each.{All-at}
 use Rattle.field.specs.laws.Extension.{of_laws}
 use Rattle.lookup_model.specs.Records.{IsWithin}
 use Rattle.lookup_model.proofs.Lookups.SentRows.{column_is, equal_lengths}
 use Rattle.lookup_model.specs.internal.Equations.{Equation, equation_at, row_equations}
-use Rattle.lookup_rows.specs.TraceBuilder.{builder_layout, ext_builder_window}
+use Rattle.lookup_messages.specs.TraceBuilder.{builder_layout, ext_builder_window}
 use Rattle.checker_batches.specs.internal.Sums.{AreSums}
 use Rattle.checker_batches.proofs.SumWalk.{sums_further, sums_kept, sums_stay}
 use Rattle.checker_batches.proofs.existence.with_row_equations.Goals as goal

@@ -1,7 +1,7 @@
 use Rattle.std.proofs.Common.{List, ◌++◌, take}
 use Rattle.field.specs.laws.Extension.{of_laws}
 use Rattle.lookup_model.specs.internal.Equations.{Equation, row_equations}
-use Rattle.lookup_rows.specs.TraceBuilder.{ext_builder_window}
+use Rattle.lookup_messages.specs.TraceBuilder.{ext_builder_window}
 use Rattle.checker_batches.specs.internal.Sums.{AreSums}
 use Rattle.checker_batches.proofs.existence.with_row_equations.Given as goal
 

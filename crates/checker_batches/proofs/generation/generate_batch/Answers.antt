@@ -1,7 +1,7 @@
 use Rattle.std.proofs.Common.{◌+◌, Some, List, inl, inr, map, sym, ap, subst₂, ◌∙◌, arith}
 use Rattle.std.proofs.lemmas.List.{length-map}
 use Rattle.std.proofs.lemmas.Option.{slice_get_within}
-use Rattle.lists.proofs.Images.{mapped_at}
+use Rattle.list_laws.proofs.Images.{mapped_at}
 use Rattle.field.specs.laws.Extension.{of_laws}
 use Rattle.lookup_model.specs.Terminals.{terminal_sum}
 use Rattle.lookup_model.specs.Batches.Instances.{instance_of, instances_of}

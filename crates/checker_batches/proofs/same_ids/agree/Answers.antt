@@ -1,6 +1,6 @@
 use Rattle.std.proofs.Common.{below_more, get_or, refl, subst, arith}
 use Rattle.std.proofs.lemmas.List.{get_or_read}
-use Rattle.lists.proofs.Each.{All-at}
+use Rattle.list_laws.proofs.Each.{All-at}
 use Rattle.lookup_model.specs.declared.types.Lookup.{Lookup}
 use Rattle.checker_batches.specs.internal.SameIds.{AgreesWith}
 use Rattle.checker_batches.proofs.same_ids.agree.Goals as goal

@@ -1,6 +1,6 @@
 use Rattle.std.proofs.Common.{◌≡◌, ◌+◌, ◌<◌, length, map, refl, slice_index_or, take, ap, ◌∙◌}
 use Rattle.std.proofs.lemmas.List.{get_or_read}
-use Rattle.lists.proofs.Each.{All-at}
+use Rattle.list_laws.proofs.Each.{All-at}
 use Rattle.field.specs.Sums.{sum_in}
 use Rattle.lookup_model.proofs.SumLaws.{sum_mapped_next}
 use Rattle.lookup_model.specs.declared.types.Lookup.{Lookup}

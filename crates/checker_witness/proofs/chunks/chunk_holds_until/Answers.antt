@@ -1,8 +1,8 @@
 use Rattle.std.proofs.Common.{◌-◌, ℕ, List, subst, ◌∙◌, arith}
 use Rattle.std.proofs.lemmas.List.{take_all}
 use Rattle.std.proofs.lemmas.Slice.Zip.{AllZip-long}
-use Rattle.lists.proofs.Zips.{AllZip-both_at}
-use Rattle.lists.proofs.Each.{All-at}
+use Rattle.list_laws.proofs.Zips.{AllZip-both_at}
+use Rattle.list_laws.proofs.Each.{All-at}
 use Rattle.air.specs.Row.{input_layout, input_window}
 use Rattle.lookup_columns.proofs.ChunkColumnLaws.{range_below}
 use Rattle.lookup_columns.proofs.StoredRows.{columns_store}

@@ -2,7 +2,7 @@ use Rattle.std.proofs.Common.{◌≡◌, ◌<◌, ◌∷◌, [], List, None, len
 use Rattle.std.proofs.lemmas.Bool.{eqb-false}
 use Rattle.std.proofs.lemmas.List.{take_all}
 use Rattle.field.specs.laws.Extension.{of_laws}
-use Rattle.lookup_evaluation.specs.declared.quotient.Quotient.{Quotient}
+use Rattle.lookup_constraints.specs.declared.quotient.Quotient.{Quotient}
 use Rattle.lookup_model.proofs.Branches.{branches_more, length-branches_at}
 use Rattle.lookup_model.proofs.RecordLaws.{multiplicity_fits, tuple_fits}
 use Rattle.lookup_model.specs.Denominators.{tuple_denominator}

@@ -1,8 +1,8 @@
 use Rattle.std.proofs.Common.{◌≡◌, ◌<◌, ◌+◌, length, ap, subst₂, sym, ◌∙◌, arith}
 use Rattle.std.proofs.lemmas.List.{length-map}
-use Rattle.lists.proofs.Images.{mapped_at}
-use Rattle.lists.proofs.Items.{item_at}
-use Rattle.lists.proofs.Zips.{zipped_at}
+use Rattle.list_laws.proofs.Images.{mapped_at}
+use Rattle.list_laws.proofs.Items.{item_at}
+use Rattle.list_laws.proofs.Zips.{zipped_at}
 use Rattle.field.specs.Ring.{sub_in}
 use Rattle.field.specs.laws.Extension.{of_laws}
 use Rattle.lookup_model.proofs.Branches.{length-branches_at}

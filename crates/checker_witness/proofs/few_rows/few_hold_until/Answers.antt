@@ -1,6 +1,6 @@
 use Rattle.std.proofs.Common.{Some, subst, sym, ◌∙◌, refl, arith}
 use Rattle.std.proofs.lemmas.Bool.{iff_false}
-use Rattle.expressions.specs.declared.layout.AirLayout.{AirLayout}
+use Rattle.air_expressions.specs.declared.layout.AirLayout.{AirLayout}
 use Rattle.field.specs.laws.Extension.{of_laws}
 use Rattle.lookup_model.specs.Batches.Instances.{instance_of}
 use Rattle.lookup_model.specs.Records.{LookupsFit}

@@ -2,7 +2,7 @@ use Rattle.std.proofs.Common.{Option, IfSome, List, None, Some, length, refl, ap
 use Rattle.std.specs.Option.{option_map}
 use Rattle.std.specs.declared.alloc.Global.{Global}
 use Rattle.std.specs.declared.vec.Vec.{Vec}
-use Rattle.expressions.specs.declared.base_expression.SymbolicExpression.{SymbolicExpression}
+use Rattle.air_expressions.specs.declared.base_expression.SymbolicExpression.{SymbolicExpression}
 use Rattle.field.specs.laws.Extension.{of_laws}
 use Rattle.lookup_model.specs.Denominators.{tuple_denominator}
 use Rattle.lookup_model.specs.Records.{AllFit, IsWithin}

@@ -2,8 +2,8 @@ use Rattle.std.proofs.Common.{◌≡◌, ◌+◌, ◌*◌, ◌∷◌, [], take, 
 use Rattle.std.proofs.lemmas.Bool.{iff_false, true≢false}
 use Rattle.std.proofs.lemmas.List.{get_or_read}
 use Rattle.std.specs.List.{AllByRecursion}
-use Rattle.lists.proofs.Each.{all_both, all_there}
-use Rattle.lists.proofs.Items.{item_there, take_item}
+use Rattle.list_laws.proofs.Each.{all_both, all_there}
+use Rattle.list_laws.proofs.Items.{item_there, take_item}
 use Rattle.field.specs.laws.Extension.{of_laws}
 use Rattle.lookup_model.proofs.Lookups.SentRows.{column_is}
 use Rattle.checker_witness.specs.internal.Rows.{FractionHoldsAt}

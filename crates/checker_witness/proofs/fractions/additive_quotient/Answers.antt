@@ -3,7 +3,7 @@ use Rattle.std.proofs.lemmas.List.{take_all}
 use Rattle.std.proofs.lemmas.Option.{slice_get_within}
 use Rattle.std.proofs.lemmas.Slice.Zip.{AllZip-long}
 use Rattle.std.specs.List.{AllZip}
-use Rattle.lists.proofs.Items.{take_item, read_is}
+use Rattle.list_laws.proofs.Items.{take_item, read_is}
 use Rattle.lookup_columns.proofs.ZipLaws.{Beside, beside}
 use Rattle.lookup_columns.specs.ChunkColumns.{IsStored}
 use Rattle.lookup_columns.specs.declared.columns.BranchColumns.{BranchColumns}

@@ -2,7 +2,7 @@ use Rattle.std.proofs.Common.{◌≡◌, ◌+◌, length, sym, ap, subst₂, ◌
 use Rattle.std.proofs.lemmas.Bool.{iff_false}
 use Rattle.std.proofs.lemmas.Option.{slice_get_within}
 use Rattle.std.proofs.lemmas.Slice.Zip.{AllZip-long}
-use Rattle.lists.proofs.Items.{read_is}
+use Rattle.list_laws.proofs.Items.{read_is}
 use Rattle.field.specs.Ring.{sub_in}
 use Rattle.lookup_columns.specs.ChunkColumns.{HasFlag, IsStoredIfSet}
 use Rattle.field.specs.laws.Extension.{of_laws}

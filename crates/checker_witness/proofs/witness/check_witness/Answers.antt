@@ -3,7 +3,7 @@ use Rattle.std.proofs.lemmas.List.{length-map}
 use Rattle.std.proofs.lemmas.Result.{err_from_is_err_and}
 use Rattle.std.proofs.lemmas.Slice.Zip.{length-zip}
 use Rattle.std.specs.List.{zip}
-use Rattle.lists.proofs.Zips.{pair_at, BothHoldBelow, both_hold_next, AllZip-held}
+use Rattle.list_laws.proofs.Zips.{pair_at, BothHoldBelow, both_hold_next, AllZip-held}
 use Rattle.matrix.specs.Matrix.{Matrix}
 use Rattle.field.specs.Extension.{Extension}
 use Rattle.lookup_model.specs.Challenges.{ChallengeTable, table_of}

@@ -1,5 +1,5 @@
 use Rattle.std.specs.List.{zip}
-use Rattle.lists.proofs.Zips.{BothHoldBelow}
+use Rattle.list_laws.proofs.Zips.{BothHoldBelow}
 use Rattle.lookup_model.specs.Challenges.{table_of}
 use Rattle.field.specs.laws.Extension.{of_laws}
 use Rattle.lookup_model.specs.Batches.Instances.{instances_of}

@@ -2,7 +2,7 @@ use Rattle.std.proofs.Common.{◌≡◌, ◌<◌, ◌+◌, ◌++◌, ◌∷◌, 
 use Rattle.std.specs.List.{slice_split}
 use Rattle.std.proofs.lemmas.Iterator.Splits.{YieldsList-from_slice_split}
 use Rattle.std.proofs.lemmas.List.{append_assoc, length-append, length-take-le, length_push, map_push, take_more_set}
-use Rattle.lists.proofs.Images.{same_length}
+use Rattle.list_laws.proofs.Images.{same_length}
 use Rattle.field_words.specs.Words.{number_of, number_bound}
 use Rattle.field_words.proofs.PartLaws.{Gives-end, Gives-more, Gives-start}
 use Rattle.field_words.proofs.challenge.read_coefficients.Goals as goal

@@ -1,6 +1,6 @@
 use Rattle.std.proofs.Common.{◌≡◌, drop, length, map}
-use Rattle.lookup_text.specs.Batches.{section_of}
-use Rattle.lookup_text.specs.Items.{placed_of}
+use Rattle.language.specs.Batches.{section_of}
+use Rattle.language.specs.Items.{placed_of}
 use Rattle.language_meaning.specs.Lookups.{column_of, said_by_items}
 use Rattle.language_meaning.specs.Scopes.{defined_of, names_for}
 use Rattle.language_meaning.proofs.LookupLaws.{names_with, with_said}

@@ -1,6 +1,6 @@
 use Rattle.std.proofs.Common.{◌≡◌, drop, map}
-use Rattle.lookup_text.specs.Batches.{section_of}
-use Rattle.lookup_text.specs.Items.{group_part_of as said_part}
+use Rattle.language.specs.Batches.{section_of}
+use Rattle.language.specs.Items.{group_part_of as said_part}
 use Rattle.language_meaning.specs.Lookups.{sent_part_of, parts_on}
 use Rattle.language_meaning.specs.Scopes.{names_of}
 use Rattle.language_meaning.proofs.LookupLaws.{with_parts}

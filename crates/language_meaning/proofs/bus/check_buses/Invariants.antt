@@ -1,5 +1,5 @@
 use Rattle.std.proofs.Common.{◌≡◌, drop, map, take}
-use Rattle.lookup_text.specs.Batches.{section_of}
+use Rattle.language.specs.Batches.{section_of}
 use Rattle.language_meaning.specs.Buses.{buses_of, distinct_after, distinct_buses}
 use Rattle.language_meaning.proofs.bus.check_buses.Given as goal
 

@@ -1,5 +1,5 @@
 use Rattle.std.proofs.Common.{◌≡◌, drop, map}
-use Rattle.lookup_text.specs.Batches.{section_of}
+use Rattle.language.specs.Batches.{section_of}
 use Rattle.language_meaning.specs.Buses.{buses_of, declared_width}
 use Rattle.language_meaning.proofs.bus.declared_width.Given as goal
 

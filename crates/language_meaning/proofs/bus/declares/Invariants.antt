@@ -1,5 +1,5 @@
 use Rattle.std.proofs.Common.{◌≡◌, drop, map}
-use Rattle.lookup_text.specs.Batches.{section_of}
+use Rattle.language.specs.Batches.{section_of}
 use Rattle.language_meaning.specs.Buses.{buses_of, declares_any}
 use Rattle.language_meaning.proofs.bus.declares.Given as goal
 

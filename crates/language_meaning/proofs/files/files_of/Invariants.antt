@@ -1,5 +1,5 @@
 use Rattle.std.proofs.Common.{◌≡◌, ◌++◌, drop, map}
-use Rattle.lookup_text.specs.Batches.{section_of}
+use Rattle.language.specs.Batches.{section_of}
 use Rattle.language_meaning.specs.Files.{files_in}
 use Rattle.language_meaning.specs.Tables.{names_in}
 use Rattle.language_meaning.proofs.files.files_of.Given as goal

@@ -1,5 +1,5 @@
 use Rattle.std.proofs.Common.{◌≡◌, ◌++◌, drop, map}
-use Rattle.lookup_text.specs.Items.{placed_of}
+use Rattle.language.specs.Items.{placed_of}
 use Rattle.language_meaning.specs.Files.{files_of_items}
 use Rattle.language_meaning.specs.Tables.{names_in}
 use Rattle.language_meaning.proofs.files.push_files.Given as goal

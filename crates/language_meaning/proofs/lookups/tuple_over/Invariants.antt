@@ -1,5 +1,5 @@
 use Rattle.std.proofs.Common.{◌≡◌, ◌++◌, drop, map, take}
-use Rattle.expressions.specs.Tree.{tree_of}
+use Rattle.air_expressions.specs.Tree.{tree_of}
 use Rattle.field.specs.Ring.{of_nat}
 use Rattle.language_meaning.specs.Lookups.{sent_part_of}
 use Rattle.language_meaning.specs.Values.{meant_of}

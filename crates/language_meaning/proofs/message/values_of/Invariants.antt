@@ -1,5 +1,5 @@
 use Rattle.std.proofs.Common.{◌≡◌, drop, map}
-use Rattle.lookup_text.specs.Formulas.{formula_of}
+use Rattle.language.specs.Formulas.{formula_of}
 use Rattle.language_meaning.specs.Messages.{all_meant}
 use Rattle.language_meaning.specs.Scopes.{names_of}
 use Rattle.language_meaning.specs.Values.{meant_of}

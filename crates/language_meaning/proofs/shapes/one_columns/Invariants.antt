@@ -1,5 +1,5 @@
 use Rattle.std.proofs.Common.{◌≡◌, None, drop, map, option_map}
-use Rattle.lookup_text.specs.Items.{placed_of}
+use Rattle.language.specs.Items.{placed_of}
 use Rattle.language_meaning.specs.declared.table_fault.TableWhy.TheVariants.{RepeatedColumns}
 use Rattle.language_meaning.specs.Shapes.{columns_in}
 use Rattle.language_meaning.specs.Tables.{one_of}

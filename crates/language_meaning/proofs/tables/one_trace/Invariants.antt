@@ -1,5 +1,5 @@
 use Rattle.std.proofs.Common.{◌≡◌, None, drop, map}
-use Rattle.lookup_text.specs.Items.{placed_of}
+use Rattle.language.specs.Items.{placed_of}
 use Rattle.language_meaning.specs.declared.table_fault.TableWhy.TheVariants.{RepeatedTrace}
 use Rattle.language_meaning.specs.Tables.{one_of, trace_in}
 use Rattle.language_meaning.proofs.tables.one_trace.Given as goal

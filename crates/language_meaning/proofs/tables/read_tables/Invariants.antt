@@ -1,5 +1,5 @@
 use Rattle.std.proofs.Common.{◌≡◌, drop, map}
-use Rattle.lookup_text.specs.Batches.{section_of}
+use Rattle.language.specs.Batches.{section_of}
 use Rattle.language_meaning.specs.Files.{named_of}
 use Rattle.language_meaning.specs.Tables.{all_tables, tables_of}
 use Rattle.language_meaning.proofs.TableLaws.{with_tables}

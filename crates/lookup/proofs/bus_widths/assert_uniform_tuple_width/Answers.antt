@@ -1,7 +1,7 @@
 use Rattle.std.proofs.Common.{◌≡◌, Some, length, map, slice_get, ap, inl, inr, sym, ◌∙◌, arith}
 use Rattle.std.proofs.lemmas.List.Elements.{All-from_recursion}
-use Rattle.lists.proofs.Each.{all_of_map}
-use Rattle.lists.proofs.Images.{map_at}
+use Rattle.list_laws.proofs.Each.{all_of_map}
+use Rattle.list_laws.proofs.Images.{map_at}
 use Rattle.lookup.proofs.WidthLaws.{all_same, has_other}
 use Rattle.lookup.proofs.bus_widths.assert_uniform_tuple_width.Goals as goal
 

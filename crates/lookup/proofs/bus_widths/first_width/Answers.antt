@@ -2,7 +2,7 @@ use Rattle.std.proofs.lemmas.List.{take_all}
 use Rattle.std.specs.List.{flat_map}
 use Rattle.std.proofs.Common.{map, ◌≡◌, Some, length, option_map, slice_get, ap, sym, ◌∙◌, arith}
 use Rattle.std.proofs.lemmas.Option.{slice_get-map}
-use Rattle.lists.proofs.Images.{map-map}
+use Rattle.list_laws.proofs.Images.{map-map}
 use Rattle.lookup_model.specs.Outline.{fields_of}
 use Rattle.lookup.specs.BusWidths.{widths_of}
 use Rattle.lookup.proofs.WidthLaws.{first_in}

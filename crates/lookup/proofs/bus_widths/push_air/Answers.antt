@@ -3,7 +3,7 @@ use Rattle.std.proofs.lemmas.List.{length-map}
 use Rattle.std.proofs.lemmas.Option.{slice_get-map}
 use Rattle.std.specs.Option.{option_map}
 use Rattle.std.specs.List.{flat_map}
-use Rattle.lists.proofs.Parts.{parts_next}
+use Rattle.list_laws.proofs.Parts.{parts_next}
 use Rattle.lookup_model.specs.Outline.{fields_of}
 use Rattle.lookup.specs.Buses.{bus_groups, group_of}
 use Rattle.lookup.specs.BusWidths.{widths_of}

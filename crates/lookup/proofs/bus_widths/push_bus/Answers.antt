@@ -1,8 +1,8 @@
 use Rattle.std.proofs.Common.{◌++◌, ap, arith, length, map, sym, take_all, ◌∙◌}
 use Rattle.std.proofs.lemmas.List.Folds.{flat_map-map}
 use Rattle.std.specs.List.{flat_map}
-use Rattle.lists.proofs.Images.{map-map}
-use Rattle.lists.proofs.Parts.{map-flat_map}
+use Rattle.list_laws.proofs.Images.{map-map}
+use Rattle.list_laws.proofs.Parts.{map-flat_map}
 use Rattle.lookup_model.specs.Outline.{fields_of}
 use Rattle.lookup.specs.BusWidths.{widths_of}
 use Rattle.lookup.specs.NamedWidths.{seen_widths}

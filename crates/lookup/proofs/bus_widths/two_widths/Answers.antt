@@ -1,7 +1,7 @@
 use Rattle.std.proofs.Common.{find, length, map, ap, sym, ◌∙◌, arith}
 use Rattle.std.proofs.lemmas.List.{take_all}
 use Rattle.std.specs.List.{flat_map}
-use Rattle.lists.proofs.Images.{map-map}
+use Rattle.list_laws.proofs.Images.{map-map}
 use Rattle.lookup_model.specs.Outline.{fields_of}
 use Rattle.lookup.specs.BusWidths.{widths_of}
 use Rattle.lookup.proofs.WidthLaws.{all_same, found_in, has_other, is_other, passed_in}

@@ -3,7 +3,7 @@ use Rattle.std.proofs.lemmas.List.{nil_from_length}
 use Rattle.std.specs.declared.alloc.Global.{Global}
 use Rattle.std.specs.declared.vec.Vec.{Vec}
 use Rattle.std.specs.Vec.Iter.{into_iter_items}
-use Rattle.lists.proofs.Images.{all_passed}
+use Rattle.list_laws.proofs.Images.{all_passed}
 use Rattle.lookup_model.specs.LookupDegree.{greatest}
 use Rattle.lookup_record.specs.Records.{branch_of, exclusive_of}
 use Rattle.lookup.proofs.ExtractionLaws.{same_lengths}

@@ -3,7 +3,7 @@ use Rattle.std.proofs.lemmas.List.{nil_from_length}
 use Rattle.std.proofs.lemmas.Result.{err_from_is_err_and}
 use Rattle.std.specs.List.{sum_by}
 use Rattle.std.specs.Vec.Iter.{into_iter_items}
-use Rattle.lists.proofs.Images.{all_passed}
+use Rattle.list_laws.proofs.Images.{all_passed}
 use Rattle.lookup_record.specs.Pushed.{tuple_of}
 use Rattle.lookup_record.specs.Records.{local_of}
 use Rattle.lookup_model.specs.Weight.{weight_bound}

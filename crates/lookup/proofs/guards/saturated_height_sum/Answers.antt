@@ -3,9 +3,9 @@ use Rattle.std.proofs.lemmas.List.{get_or_default, length-map, take_all}
 use Rattle.std.proofs.lemmas.List.Sums.{sum_by_push}
 use Rattle.std.proofs.lemmas.Slice.Zip.{length-zip}
 use Rattle.std.specs.List.{sum_by, zip}
-use Rattle.lists.proofs.Images.{mapped_at}
-use Rattle.lists.proofs.Items.{take_item}
-use Rattle.lists.proofs.Zips.{zip_at}
+use Rattle.list_laws.proofs.Images.{mapped_at}
+use Rattle.list_laws.proofs.Items.{take_item}
+use Rattle.list_laws.proofs.Zips.{zip_at}
 use Rattle.lookup_model.specs.declared.types.Lookup.{Lookup}
 use Rattle.lookup.specs.Guards.{weighted_height}
 use Rattle.lookup.specs.Lookups.{lookups_of}

@@ -1,6 +1,6 @@
 use Rattle.std.proofs.Common.{◌∙◌, ap, map, sym, take}
 use Rattle.field.specs.Sums.{sum_in}
-use Rattle.lists.proofs.Images.{images_more}
+use Rattle.list_laws.proofs.Images.{images_more}
 use Rattle.lookup_model.proofs.SumLaws.{sum_in-push}
 use Rattle.lookup_model.specs.Terminals.{terminal_value}
 use Rattle.lookup.proofs.logup.sum_of_terminals.Goals as goal

@@ -2,14 +2,14 @@ use Rattle.std.proofs.Common.{◌≡◌, ◌+◌, ◌++◌, ◌∷◌, [], Ok, E
 use Rattle.std.proofs.lemmas.List.{map-append, take_all}
 use Rattle.std.proofs.lemmas.Option.{slice_get_read}
 use Rattle.std.proofs.lemmas.Result.{err_from_is_err_and}
-use Rattle.lists.proofs.Each.{All-at}
-use Rattle.lists.proofs.Items.{take_item, split_at}
-use Rattle.expressions.specs.declared.layout.AirLayout.{AirLayout}
-use Rattle.lookup_evaluation.specs.Asserted.{Asserts}
+use Rattle.list_laws.proofs.Each.{All-at}
+use Rattle.list_laws.proofs.Items.{take_item, split_at}
+use Rattle.air_expressions.specs.declared.layout.AirLayout.{AirLayout}
+use Rattle.lookup_constraints.specs.Asserted.{Asserts}
 use Rattle.lookup_model.specs.Constraints.{fraction_constraint}
 use Rattle.field.specs.laws.Extension.{of_laws}
 use Rattle.lookup_model.specs.Records.{IsWithin}
-use Rattle.lookup_evaluation.proofs.AssertedLaws.{fails_early}
+use Rattle.lookup_constraints.proofs.AssertedLaws.{fails_early}
 use Rattle.lookup.proofs.Evaluations.{evaluates_after, layout_kept}
 use Rattle.lookup_model.proofs.Lookups.SentRows.{column_is}
 use Rattle.lookup.proofs.protocol.eval_fractions.Goals as goal

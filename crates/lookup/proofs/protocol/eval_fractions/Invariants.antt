@@ -1,6 +1,6 @@
 use Rattle.std.proofs.Common.{map, take}
-use Rattle.expressions.specs.Window.{ExtWindow}
-use Rattle.lookup_evaluation.specs.Asserted.{Asserts, IsConstraint}
+use Rattle.air_expressions.specs.Window.{ExtWindow}
+use Rattle.lookup_constraints.specs.Asserted.{Asserts, IsConstraint}
 use Rattle.lookup_model.specs.Constraints.{fraction_constraint}
 use Rattle.field.specs.laws.Extension.{of_laws}
 use Rattle.lookup.proofs.protocol.eval_fractions.Given as goal

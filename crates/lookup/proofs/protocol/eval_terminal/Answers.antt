@@ -1,7 +1,7 @@
-use Rattle.expressions.specs.Window.{ExtWindow}
+use Rattle.air_expressions.specs.Window.{ExtWindow}
 use Rattle.lookup_model.specs.Constraints.{accumulator_constraints, terminal_at}
 use Rattle.field.specs.laws.Extension.{of_laws}
-use Rattle.lookup_evaluation.proofs.AssertedLaws.{evaluates_read}
+use Rattle.lookup_constraints.proofs.AssertedLaws.{evaluates_read}
 use Rattle.lookup.proofs.Evaluations.{terminal_reads}
 use Rattle.lookup.proofs.protocol.eval_terminal.Goals as goal
 

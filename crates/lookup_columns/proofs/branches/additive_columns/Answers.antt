@@ -1,6 +1,6 @@
 use Rattle.std.proofs.Common.{◌<◌, length, arith}
-use Rattle.lists.proofs.Items.{item_at, item_there}
-use Rattle.lists.proofs.Zips.{AllZip-all_right, AllZip-more_right}
+use Rattle.list_laws.proofs.Items.{item_at, item_there}
+use Rattle.list_laws.proofs.Zips.{AllZip-all_right, AllZip-more_right}
 use Rattle.lookup_columns.specs.ChunkColumns.{IsStored, key_denominator_over}
 use Rattle.lookup_model.proofs.Branches.{length-branches_at}
 use Rattle.lookup_model.specs.Sent.{branches_at}

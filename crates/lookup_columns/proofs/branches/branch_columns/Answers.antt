@@ -3,7 +3,7 @@ use Rattle.std.proofs.lemmas.List.{get_or_default}
 use Rattle.std.specs.List.{AllZip}
 use Rattle.field.specs.Polynomial.{combined}
 use Rattle.field.specs.Ring.{sub_in}
-use Rattle.expressions.specs.Tree.{tree_of}
+use Rattle.air_expressions.specs.Tree.{tree_of}
 use Rattle.std.proofs.lemmas.Slice.Zip.{AllZip-long}
 use Rattle.lookup_columns.proofs.ZipLaws.{beside}
 use Rattle.lookup_columns.specs.Columns.{tuple_denominator_at}
@@ -13,8 +13,8 @@ use Rattle.lookup_columns.specs.LookupSteps.{AreTupleSteps}
 use Rattle.lookup_columns.proofs.ChunkColumnLaws.{mapped_there}
 use Rattle.lookup_columns.proofs.StepLaws.{all_steps_fit}
 use Rattle.std.proofs.lemmas.Option.{get_or_from_slice_get}
-use Rattle.lists.proofs.Zips.{zipped_at}
-use Rattle.lists.proofs.Each.{All-at}
+use Rattle.list_laws.proofs.Zips.{zipped_at}
+use Rattle.list_laws.proofs.Each.{All-at}
 use Rattle.lookup_model.specs.Message.{Message}
 use Rattle.lookup_model.specs.Records.{AllFit, IsWithin}
 use Rattle.lookup_model.specs.Sent.{branch_at, branches_at, value, values}

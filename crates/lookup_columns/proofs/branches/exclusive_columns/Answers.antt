@@ -2,11 +2,11 @@ use Rattle.std.proofs.Common.{◌<◌, All, List, length, ap, sym, subst, ◌∙
 use Rattle.std.proofs.lemmas.List.{length-map}
 use Rattle.std.proofs.lemmas.Slice.Zip.{AllZip-long}
 use Rattle.std.specs.List.{slice_get}
-use Rattle.lists.proofs.Each.{All-at}
-use Rattle.lists.proofs.Images.{mapped_at}
-use Rattle.lists.proofs.Items.{item_at, item_there}
-use Rattle.lists.proofs.Zips.{AllZip-all_right, AllZip-more_right}
-use Rattle.expressions.specs.Tree.{tree_of}
+use Rattle.list_laws.proofs.Each.{All-at}
+use Rattle.list_laws.proofs.Images.{mapped_at}
+use Rattle.list_laws.proofs.Items.{item_at, item_there}
+use Rattle.list_laws.proofs.Zips.{AllZip-all_right, AllZip-more_right}
+use Rattle.air_expressions.specs.Tree.{tree_of}
 use Rattle.air.specs.Traces.{height_of, layout_of, traces_of, window_of}
 use Rattle.lookup_columns.proofs.ChunkColumnLaws.{mapped_there}
 use Rattle.lookup_columns.proofs.StepLaws.{all_steps_fit}

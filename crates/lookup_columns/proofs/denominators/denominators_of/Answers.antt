@@ -1,7 +1,7 @@
 use Rattle.std.proofs.Common.{◌≡◌, ◌<◌, ◌+◌, map, ◌-◌, ◌∷◌, ◌++◌, List, All, arith, ap, sym, subst, ◌∙◌, drop, length, take}
 use Rattle.std.proofs.lemmas.List.{length-drop, length-map}
 use Rattle.std.proofs.Math.Seq.{take-append_seam}
-use Rattle.lists.proofs.Zips.{length-zipped}
+use Rattle.list_laws.proofs.Zips.{length-zipped}
 use Rattle.lookup_model.specs.Sent.{value}
 use Rattle.std.specs.List.{zip}
 use Rattle.field.proofs.DotProduct.{drop_read}
@@ -10,10 +10,10 @@ use Rattle.lookup_columns.specs.Columns.{tuple_denominator_at, tuple_denominator
 use Rattle.air.specs.Traces.{layout_of, traces_of, window_of}
 use Rattle.lookup_columns.proofs.LessenedLaws.{column_front, first_power, power_more}
 use Rattle.std.proofs.lemmas.Slice.Zip.{AllZip-long}
-use Rattle.lists.proofs.Each.{All-at}
+use Rattle.list_laws.proofs.Each.{All-at}
 use Rattle.lookup_columns.proofs.ZipLaws.{beside}
 use Rattle.lookup_columns.specs.Steps.{AreStepsOf, StepFits}
-use Rattle.expressions.specs.Tree.{tree_of}
+use Rattle.air_expressions.specs.Tree.{tree_of}
 use Rattle.lookup_columns.proofs.denominators.denominators_of.Goals as goal
 
 pub loop-left-init : goal.loop-left-init

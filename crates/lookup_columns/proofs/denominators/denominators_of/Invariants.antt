@@ -1,6 +1,6 @@
 use Rattle.std.proofs.Common.{◌≡◌, ◌<◌, ◌≤◌, List, drop, length}
 use Rattle.std.specs.List.{AllZip}
-use Rattle.expressions.specs.declared.base_expression.SymbolicExpression.{SymbolicExpression}
+use Rattle.air_expressions.specs.declared.base_expression.SymbolicExpression.{SymbolicExpression}
 use Rattle.field.specs.Ring.{power}
 use Rattle.lookup_columns.specs.Columns.{tuple_denominators}
 use Rattle.lookup_columns.specs.Steps.{AreStepsOf}

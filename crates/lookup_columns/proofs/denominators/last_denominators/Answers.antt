@@ -6,10 +6,10 @@ use Rattle.lookup_columns.specs.Columns.{tuple_denominators}
 use Rattle.air.specs.Traces.{layout_of, traces_of, window_of}
 use Rattle.lookup_columns.proofs.LessenedLaws.{column_of_last, column_of_none}
 use Rattle.std.proofs.lemmas.Slice.Zip.{AllZip-long}
-use Rattle.lists.proofs.Each.{All-at}
+use Rattle.list_laws.proofs.Each.{All-at}
 use Rattle.lookup_columns.proofs.ZipLaws.{beside}
 use Rattle.lookup_columns.specs.Steps.{AreStepsOf, StepFits}
-use Rattle.expressions.specs.Tree.{tree_of}
+use Rattle.air_expressions.specs.Tree.{tree_of}
 use Rattle.lookup_columns.proofs.denominators.last_denominators.Goals as goal
 
 pub column_of-requires-clause-fits : goal.column_of-requires-clause-fits

@@ -1,7 +1,7 @@
 use Rattle.std.proofs.Common.{◌≡◌, ◌<◌, ◌≤◌, ◌≢◌, ◌∷◌, ◌++◌, [], length, map, get_or, sym, ◌∙◌, arith, get_or-set_other}
 use Rattle.std.specs.List.{zip}
 use Rattle.std.proofs.lemmas.List.{length-set, take_all, take_more_set}
-use Rattle.lists.proofs.Zips.{length-zipped, zipped_more}
+use Rattle.list_laws.proofs.Zips.{length-zipped, zipped_more}
 use Rattle.field.specs.Ring.{sub_in}
 use Rattle.lookup_columns.proofs.denominators.lessen.Goals as goal
 

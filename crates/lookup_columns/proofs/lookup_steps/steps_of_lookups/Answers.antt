@@ -1,4 +1,4 @@
-use Rattle.lists.proofs.Zips.{AllZip-more_right}
+use Rattle.list_laws.proofs.Zips.{AllZip-more_right}
 use Rattle.lookup_columns.specs.LookupSteps.{AreLookupSteps}
 use Rattle.lookup_columns.proofs.lookup_steps.steps_of_lookups.Goals as goal
 

@@ -1,7 +1,7 @@
 use Rattle.std.proofs.Common.{◌+◌, ◌∷◌, ◌++◌, [], ap, sym, subst, subst₂, take, ◌∙◌}
 use Rattle.std.proofs.lemmas.Slice.Zip.{all_zipped_more}
 use Rattle.std.specs.List.{AllZip}
-use Rattle.lists.proofs.Items.{take_item}
+use Rattle.list_laws.proofs.Items.{take_item}
 use Rattle.lookup_columns.specs.Steps.{AreStepsOf}
 use Rattle.lookup_columns.specs.LookupSteps.{AreTupleSteps}
 use Rattle.lookup_columns.proofs.lookup_steps.steps_of_tuples.Goals as goal

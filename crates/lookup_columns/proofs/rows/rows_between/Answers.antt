@@ -1,6 +1,6 @@
 use Rattle.std.proofs.Common.{◌≡◌, ◌+◌, ◌-◌, ◌∷◌, ◌++◌, [], ap, sym, ◌∙◌, arith}
 use Rattle.std.specs.List.{range_with_len}
-use Rattle.lists.proofs.Items.{range_more}
+use Rattle.list_laws.proofs.Items.{range_more}
 use Rattle.lookup_columns.proofs.rows.rows_between.Goals as goal
 
 pub loop-row-init : goal.loop-row-init

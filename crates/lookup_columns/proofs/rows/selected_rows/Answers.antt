@@ -2,7 +2,7 @@ use Rattle.std.proofs.Common.{◌≡◌, ◌<◌, ◌≤◌, ◌∷◌, ◌++◌
 use Rattle.std.proofs.lemmas.Bool.{false_from_ne_true, true≢false}
 use Rattle.std.proofs.lemmas.List.{append-nil, get_or_default, length-set, length-take, take-set, take_all, take_more_set}
 use Rattle.std.proofs.lemmas.List.Elements.{All-push}
-use Rattle.lists.proofs.Items.{take_item}
+use Rattle.list_laws.proofs.Items.{take_item}
 use Rattle.lookup_columns.specs.internal.ChunkColumns.{AreSelected, selected_rows}
 use Rattle.lookup_columns.proofs.SelectedRows.{selected_more, selected_skipped, selected_push}
 use Rattle.lookup_columns.proofs.rows.selected_rows.Goals.{then-not-is_zero, else-not-is_zero}

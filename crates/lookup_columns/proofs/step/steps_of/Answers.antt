@@ -1,5 +1,5 @@
 use Rattle.std.proofs.Common.{◌++◌, ap, ◌∙◌}
-use Rattle.expressions.specs.Tree.{tree_of}
+use Rattle.air_expressions.specs.Tree.{tree_of}
 use Rattle.lookup_columns.specs.Steps.{steps_in_order}
 use Rattle.lookup_columns.proofs.StepLaws.{expression_steps_fit}
 use Rattle.lookup_columns.proofs.step.steps_of.Goals as goal

@@ -1,5 +1,5 @@
 use Rattle.std.proofs.Common.{arith}
-use Rattle.lists.proofs.Zips.{AllZip-all_right, AllZip-more_right}
+use Rattle.list_laws.proofs.Zips.{AllZip-all_right, AllZip-more_right}
 use Rattle.lookup_columns.specs.Steps.{AreStepsOf}
 use Rattle.lookup_columns.proofs.StepLaws.{all_steps_fit}
 use Rattle.lookup_columns.proofs.step.steps_of_each.Goals as goal

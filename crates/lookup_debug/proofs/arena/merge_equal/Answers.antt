@@ -2,7 +2,7 @@ use Rattle.std.proofs.Common.{◌≡◌, ◌++◌, [], ◌∷◌, List, Some, ap
 use Rattle.std.proofs.lemmas.List.{length-map, take_all}
 use Rattle.std.proofs.lemmas.Option.{get_or_from_slice_get, slice_get-map, slice_get_within}
 use Rattle.std.specs.Borrow.{Bor}
-use Rattle.lists.proofs.Items.{take_item}
+use Rattle.list_laws.proofs.Items.{take_item}
 use Rattle.lookup_debug.specs.internal.Arena.{amounts_in}
 use Rattle.lookup_debug.specs.internal.Nets.{amount_nets}
 use Rattle.lookup_debug.proofs.arena.merge_equal.Goals as goal

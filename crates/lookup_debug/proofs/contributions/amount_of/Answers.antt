@@ -1,5 +1,5 @@
 use Rattle.std.proofs.Common.{◌∙◌, IfSome, Option, Some, ap, arith, subst, sym}
-use Rattle.lookup_rows.specs.TraceBuilder.{builder_layout, builder_window}
+use Rattle.lookup_messages.specs.TraceBuilder.{builder_layout, builder_window}
 use Rattle.lookup_model.proofs.RecordLaws.{Fits-at, multiplicity_fits}
 use Rattle.lookup_model.specs.Records.{AllFit, IsWithin}
 use Rattle.lookup_debug.proofs.AmountLaws.{size_counted, size_flagged}

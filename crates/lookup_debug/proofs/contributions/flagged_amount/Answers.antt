@@ -1,7 +1,7 @@
 use Rattle.std.proofs.Common.{sym, ap, ◌∙◌}
 use Rattle.field.specs.laws.RingFacts.{zero_mul}
 use Rattle.lookup_model.specs.Sent.{value}
-use Rattle.lookup_rows.specs.TraceBuilder.{builder_window}
+use Rattle.lookup_messages.specs.TraceBuilder.{builder_window}
 use Rattle.lookup_debug.proofs.contributions.flagged_amount.Goals as goal
 
 pub returns : goal.returns

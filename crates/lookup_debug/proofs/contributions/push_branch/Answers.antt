@@ -1,5 +1,5 @@
 use Rattle.std.proofs.Common.{◌≡◌, ◌∷◌, [], Bool, List, arith, cond, false, not, subst, sym, ap, ◌∙◌}
-use Rattle.lookup_rows.specs.TraceBuilder.{builder_window}
+use Rattle.lookup_messages.specs.TraceBuilder.{builder_window}
 use Rattle.lookup_model.specs.Sent.{values}
 use Rattle.lookup_debug.specs.Contributions.{Contribution}
 use Rattle.lookup_debug.specs.declared.arena.Contributions.{Contributions}

@@ -1,6 +1,6 @@
 use Rattle.std.proofs.Common.{List, arith, subst}
 use Rattle.std.proofs.lemmas.List.{take_all}
-use Rattle.lookup_rows.specs.TraceBuilder.{builder_layout, builder_window}
+use Rattle.lookup_messages.specs.TraceBuilder.{builder_layout, builder_window}
 use Rattle.lookup_model.proofs.RecordLaws.{tuple_fits}
 use Rattle.lookup_model.specs.Sent.{branches_at, flags_at}
 use Rattle.lookup_debug.specs.Contributions.{Contribution, amounts, contributions_from, nonzero}

@@ -1,6 +1,6 @@
 use Rattle.std.proofs.Common.{take}
 use Rattle.lookup_model.specs.Sent.{branches_at, flags_at}
-use Rattle.lookup_rows.specs.TraceBuilder.{builder_window}
+use Rattle.lookup_messages.specs.TraceBuilder.{builder_window}
 use Rattle.lookup_debug.specs.Contributions.{SentLocation, amounts, contributions_from, nonzero}
 use Rattle.lookup_debug.specs.internal.Appended.{Appends}
 use Rattle.lookup_debug.proofs.contributions.push_on_row.Given as goal

@@ -2,8 +2,8 @@ use Rattle.std.proofs.Common.{◌++◌, ◌∷◌, [], ap, sym, ◌∙◌}
 use Rattle.std.proofs.lemmas.List.{append-nil, take_all}
 use Rattle.lookup_model.proofs.RecordLaws.{Fits-at}
 use Rattle.lookup_model.specs.Sent.{value, values}
-use Rattle.lookup_rows.specs.TraceBuilder.{builder_layout, builder_window}
-use Rattle.lists.proofs.Images.{appended_more}
+use Rattle.lookup_messages.specs.TraceBuilder.{builder_layout, builder_window}
+use Rattle.list_laws.proofs.Images.{appended_more}
 use Rattle.lookup_debug.proofs.contributions.push_tuple.Goals as goal
 
 pub value_of-requires : goal.value_of-requires

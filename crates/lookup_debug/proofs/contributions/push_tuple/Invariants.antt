@@ -1,6 +1,6 @@
 use Rattle.std.proofs.Common.{◌≡◌, ◌++◌, take}
 use Rattle.lookup_model.specs.Sent.{values}
-use Rattle.lookup_rows.specs.TraceBuilder.{builder_window}
+use Rattle.lookup_messages.specs.TraceBuilder.{builder_window}
 use Rattle.lookup_debug.proofs.contributions.push_tuple.Given as goal
 
 abbrev pub invariant-loop-element : goal.invariant-loop-element

@@ -1,6 +1,6 @@
 use Rattle.std.proofs.Common.{◌≡◌, List, length, sym, subst, ◌∙◌}
 use Rattle.std.specs.Borrow.{Bor}
-use Rattle.lists.proofs.Items.{some_is}
+use Rattle.list_laws.proofs.Items.{some_is}
 use Rattle.lookup_debug.specs.Mismatch.{IsFirst, net_amount}
 use Rattle.lookup_debug.specs.internal.Nets.{IsFirstIndex}
 use Rattle.lookup_debug.proofs.AmountNets.{nets_without_location}

@@ -1,8 +1,8 @@
 use Rattle.std.proofs.Common.{◌≡◌, ◌<◌, Some, ap, arith, length, map, refl, slice_get, sym, ◌∙◌}
 use Rattle.std.proofs.lemmas.List.{length-map}
 use Rattle.std.proofs.lemmas.Option.{slice_get_read, slice_get_within}
-use Rattle.lists.proofs.Images.{map_at}
-use Rattle.lists.proofs.Items.{holds_next}
+use Rattle.list_laws.proofs.Images.{map_at}
+use Rattle.list_laws.proofs.Items.{holds_next}
 use Rattle.lookup_debug.specs.Contributions.{traced_of}
 use Rattle.lookup_debug.specs.FirstUnbalanced.{IsFirstUnbalanced, IsUnbalancedIn}
 use Rattle.lookup_debug.specs.Groups.{Group, groups}

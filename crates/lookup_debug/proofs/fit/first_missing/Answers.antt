@@ -1,6 +1,6 @@
 use Rattle.std.proofs.Common.{arith, refl}
-use Rattle.lists.proofs.Each.{All-held}
-use Rattle.lists.proofs.Items.{holds_next, item_there}
+use Rattle.list_laws.proofs.Each.{All-held}
+use Rattle.list_laws.proofs.Items.{holds_next, item_there}
 use Rattle.lookup_model.specs.Records.{IsWithin}
 use Rattle.lookup_debug.proofs.fit.first_missing.Goals as goal
 

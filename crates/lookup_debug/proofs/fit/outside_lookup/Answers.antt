@@ -1,8 +1,8 @@
 use Rattle.std.proofs.Common.{◌⊎◌, All, IfSome, IsSomeAnd, List, MatchOption, Option, Some, None, inl, inr, subst, sym}
 use Rattle.std.specs.declared.alloc.Global.{Global}
 use Rattle.std.specs.declared.vec.Vec.{Vec}
-use Rattle.expressions.specs.declared.base_expression.SymbolicExpression.{SymbolicExpression}
-use Rattle.expressions.specs.declared.layout.AirLayout.{AirLayout}
+use Rattle.air_expressions.specs.declared.base_expression.SymbolicExpression.{SymbolicExpression}
+use Rattle.air_expressions.specs.declared.layout.AirLayout.{AirLayout}
 use Rattle.lookup_debug.specs.Fits.{IsFirstOutsideLookup, IsFirstOutsideOf, IsFirstOutsideTuples}
 use Rattle.lookup_debug.specs.declared.fit.Cell.{Cell}
 use Rattle.lookup_model.specs.Records.{AllFit, IsWithin}

@@ -1,7 +1,7 @@
 use Rattle.std.proofs.Common.{arith}
-use Rattle.lists.proofs.Each.{All-held}
-use Rattle.expressions.specs.Layout.{Fits}
-use Rattle.expressions.specs.Tree.{tree_of}
+use Rattle.list_laws.proofs.Each.{All-held}
+use Rattle.air_expressions.specs.Layout.{Fits}
+use Rattle.air_expressions.specs.Tree.{tree_of}
 use Rattle.lookup_model.specs.Records.{AllFit}
 use Rattle.lookup_debug.proofs.fit.outside_of.Goals as goal
 

@@ -1,7 +1,7 @@
 use Rattle.std.proofs.Common.{List, arith, subst}
-use Rattle.lists.proofs.Each.{All-held}
-use Rattle.lists.proofs.Items.{holds_next, item_there}
-use Rattle.expressions.specs.declared.base_expression.SymbolicExpression.{SymbolicExpression}
+use Rattle.list_laws.proofs.Each.{All-held}
+use Rattle.list_laws.proofs.Items.{holds_next, item_there}
+use Rattle.air_expressions.specs.declared.base_expression.SymbolicExpression.{SymbolicExpression}
 use Rattle.lookup_debug.specs.Fits.{IsFirstOutsideOf}
 use Rattle.lookup_model.specs.Records.{AllFit}
 use Rattle.lookup_debug.proofs.fit.outside_tuples.Goals as goal

@@ -1,6 +1,6 @@
 use Rattle.std.proofs.Common.{◌++◌, ◌∷◌, [], ap, map, sym, ◌∙◌}
 use Rattle.std.proofs.lemmas.List.{map-append, take_all}
-use Rattle.lists.proofs.Images.{images_more, map-map}
+use Rattle.list_laws.proofs.Images.{images_more, map-map}
 use Rattle.lookup_debug.specs.BusTable.{group_row, row_of}
 use Rattle.lookup_debug.specs.Contributions.{traced_of}
 use Rattle.lookup_debug.specs.Groups.{groups}

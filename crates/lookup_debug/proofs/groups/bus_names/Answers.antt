@@ -3,8 +3,8 @@ use Rattle.std.proofs.lemmas.List.{length-map}
 use Rattle.std.proofs.lemmas.Result.{IfOk-weaker}
 use Rattle.std.specs.Cmp.Lexicographic.{pointwise}
 use Rattle.std.specs.List.{filter_map, flat_map}
-use Rattle.lists.proofs.Items.{numbered_all}
-use Rattle.lists.proofs.Images.{mapped_at}
+use Rattle.list_laws.proofs.Items.{numbered_all}
+use Rattle.list_laws.proofs.Images.{mapped_at}
 use Rattle.lookup_model.specs.Net.{first_seen}
 use Rattle.lookup_model.specs.Outline.{bus_of}
 use Rattle.lookup_debug.specs.Contributions.{Traced, traced_of}

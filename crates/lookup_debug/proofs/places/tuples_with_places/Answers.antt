@@ -1,5 +1,5 @@
 use Rattle.std.proofs.Common.{[], ap, map, ◌∙◌}
-use Rattle.lists.proofs.Images.{same_length}
+use Rattle.list_laws.proofs.Images.{same_length}
 use Rattle.lookup_debug.specs.BusTable.{entry_of}
 use Rattle.lookup_debug.specs.Contributions.{traced_of}
 use Rattle.lookup_debug.specs.internal.GroupList.{group_of}

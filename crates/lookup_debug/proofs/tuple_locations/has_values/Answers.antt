@@ -2,11 +2,11 @@ use Rattle.std.proofs.cmp.SliceLoops.{Rest, all_seen, begun}
 use Rattle.std.proofs.Common.{◌≡◌, ◌<◌, ◌&&◌, ◌+◌, ℕ, Bool, List, get_or, true, false, ap, arith, drop, length, refl, sym, ◌∙◌}
 use Rattle.std.proofs.lemmas.List.{length-map}
 use Rattle.std.specs.Cmp.Lexicographic.{pointwise, unequal}
-use Rattle.lists.proofs.Images.{mapped_at}
+use Rattle.list_laws.proofs.Images.{mapped_at}
 use Rattle.field.specs.Ring.{Ring}
-use Rattle.expressions.specs.Window.{Window}
-use Rattle.expressions.specs.declared.base_expression.SymbolicExpression.{SymbolicExpression}
-use Rattle.lookup_rows.specs.TraceBuilder.{builder_layout, builder_window}
+use Rattle.air_expressions.specs.Window.{Window}
+use Rattle.air_expressions.specs.declared.base_expression.SymbolicExpression.{SymbolicExpression}
+use Rattle.lookup_messages.specs.TraceBuilder.{builder_layout, builder_window}
 use Rattle.lookup_model.proofs.RecordLaws.{Fits-at}
 use Rattle.lookup_model.specs.Sent.{value, values}
 use Rattle.lookup_debug.proofs.tuple_locations.has_values.Goals as goal

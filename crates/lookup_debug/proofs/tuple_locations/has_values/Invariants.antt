@@ -1,7 +1,7 @@
 use Rattle.std.proofs.cmp.SliceLoops.{Rest}
 use Rattle.std.specs.Cmp.Lexicographic.{pointwise}
 use Rattle.lookup_model.specs.Sent.{values}
-use Rattle.lookup_rows.specs.TraceBuilder.{builder_window}
+use Rattle.lookup_messages.specs.TraceBuilder.{builder_window}
 use Rattle.lookup_debug.proofs.tuple_locations.has_values.Given as goal
 
 abbrev pub invariant-loop-index : goal.invariant-loop-index

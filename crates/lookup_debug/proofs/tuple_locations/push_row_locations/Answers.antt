@@ -1,7 +1,7 @@
 use Rattle.std.proofs.Common.{◌≡◌, ◌++◌, ◌+◌, List, arith, ap, map, sym, take, ◌∙◌}
 use Rattle.std.proofs.lemmas.List.{append-nil, take_all}
 use Rattle.std.specs.Cmp.Lexicographic.{pointwise}
-use Rattle.lookup_rows.specs.TraceBuilder.{builder_layout, builder_window}
+use Rattle.lookup_messages.specs.TraceBuilder.{builder_layout, builder_window}
 use Rattle.lookup_model.proofs.RecordLaws.{tuple_fits}
 use Rattle.lookup_model.specs.Sent.{branches_at, flags_at, values}
 use Rattle.lookup_debug.specs.Contributions.{Contribution, amounts, contributions_from, nonzero, location_of}

@@ -1,6 +1,6 @@
 use Rattle.std.proofs.Common.{◌≡◌, ◌++◌, map, take}
 use Rattle.lookup_model.specs.Sent.{branches_at, flags_at}
-use Rattle.lookup_rows.specs.TraceBuilder.{builder_window}
+use Rattle.lookup_messages.specs.TraceBuilder.{builder_window}
 use Rattle.lookup_debug.specs.Contributions.{amounts, contributions_from, nonzero, location_of}
 use Rattle.lookup_debug.specs.Mismatch.{tuple_locations}
 use Rattle.lookup_debug.proofs.tuple_locations.push_row_locations.Given as goal

@@ -1,9 +1,9 @@
 use Rattle.std.proofs.Common.{◌<◌, List, arith, length, map, subst, ℕ}
 use Rattle.std.proofs.lemmas.List.{length-map}
 use Rattle.std.specs.List.{filter, flat_map}
-use Rattle.lists.proofs.Items.{numbered_all}
-use Rattle.lists.proofs.Images.{mapped_at}
-use Rattle.lists.proofs.Each.{All-at}
+use Rattle.list_laws.proofs.Items.{numbered_all}
+use Rattle.list_laws.proofs.Images.{mapped_at}
+use Rattle.list_laws.proofs.Each.{All-at}
 use Rattle.lookup_debug.specs.Contributions.{IsTracedFitting, Traced, traced_of}
 use Rattle.lookup_debug.specs.Groups.{is_on, lookup_contributions, lookups_in}
 use Rattle.lookup_debug.specs.declared.instance.LookupDebugInstance.{LookupDebugInstance}

@@ -3,9 +3,9 @@ use Rattle.matrix.specs.Matrix.{height}
 use Rattle.std.proofs.Common.{◌≡◌, length, subst, sym, arith}
 use Rattle.std.proofs.lemmas.Option.{get_or_from_slice_get, slice_get_within}
 use Rattle.air.specs.Traces.{layout_of}
-use Rattle.expressions.specs.declared.layout.AirLayout.{AirLayout}
-use Rattle.lookup_rows.proofs.Layouts.{LookupsFit-with_challenges, with_challenges}
-use Rattle.lookup_rows.specs.TraceBuilder.{builder_window}
+use Rattle.air_expressions.specs.declared.layout.AirLayout.{AirLayout}
+use Rattle.lookup_messages.proofs.Layouts.{LookupsFit-with_challenges, with_challenges}
+use Rattle.lookup_messages.specs.TraceBuilder.{builder_window}
 use Rattle.lookup_model.specs.Records.{IsWithin}
 use Rattle.lookup_model.specs.declared.types.Lookup.{Lookup}
 use Rattle.lookup_debug.specs.Contributions.{contributions_on, traced_of}

@@ -1,5 +1,5 @@
 use Rattle.std.proofs.Common.{◌≡◌, ◌-◌, ◌*◌, ◌<◌, ◌≤◌, ℕ, IfSome, List, None, take}
-use Rattle.expressions.specs.Window.{Window}
+use Rattle.air_expressions.specs.Window.{Window}
 use Rattle.lookup_model.specs.Denominators.{key_denominator}
 use Rattle.field.specs.Extension.{extension}
 use Rattle.lookup_generation.specs.internal.Fraction.{AreAlike, AreDefined, HaveUnitDenominators, ratios_in}

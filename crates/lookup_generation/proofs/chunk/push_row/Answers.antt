@@ -1,7 +1,7 @@
 use Rattle.std.proofs.Common.{◌≡◌, ◌++◌, ◌+◌, ◌∷◌, ℕ, [], append_assoc, map, slice_index_or, sym, ap, ◌∙◌, arith}
 use Rattle.std.proofs.lemmas.List.{get_or_read, map_push}
 use Rattle.std.specs.List.{range_with_len}
-use Rattle.lists.proofs.Items.{range_more}
+use Rattle.list_laws.proofs.Items.{range_more}
 use Rattle.field.specs.Sums.{sum_in}
 use Rattle.lookup_model.proofs.SumLaws.{sum_in-push}
 use Rattle.matrix.specs.Matrix.{row}

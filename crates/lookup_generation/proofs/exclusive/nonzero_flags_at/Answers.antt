@@ -3,7 +3,7 @@ use Rattle.std.specs.List.{AllZip}
 use Rattle.std.proofs.lemmas.Bool.{true≢false}
 use Rattle.std.proofs.lemmas.List.{length-take, take_all}
 use Rattle.std.proofs.lemmas.Slice.Zip.{AllZip-long}
-use Rattle.lists.proofs.Items.{read_is, take_item}
+use Rattle.list_laws.proofs.Items.{read_is, take_item}
 use Rattle.lookup_columns.proofs.ZipLaws.{Beside, beside}
 use Rattle.lookup_columns.specs.ChunkColumns.{HasFlag}
 use Rattle.lookup_columns.specs.declared.columns.BranchColumns.{BranchColumns}

@@ -2,7 +2,7 @@ use Rattle.std.proofs.Common.{inl, inr}
 use Rattle.std.proofs.lemmas.Result.{err_from_is_err_and}
 use Rattle.lookup_indexed.specs.Declaration.{declared_table}
 use Rattle.lookup_indexed.specs.Faults.{IsFaultlessTable}
-use Rattle.lists.proofs.Each.{All-more_images}
+use Rattle.list_laws.proofs.Each.{All-more_images}
 use Rattle.lookup_indexed.proofs.FaultLaws.{all_at_end, first_declared_fault}
 use Rattle.lookup_indexed.proofs.check.check_tables.Goals as goal
 

@@ -1,5 +1,5 @@
 use Rattle.std.proofs.Common.{◌∙◌, ap, map}
-use Rattle.expressions.specs.Tree.{tree_of}
+use Rattle.air_expressions.specs.Tree.{tree_of}
 use Rattle.field.proofs.Items.{copied_more}
 use Rattle.lookup_model.proofs.copies.copy_tuples.Goals as goal
 

@@ -1,5 +1,5 @@
 use Rattle.std.proofs.Common.{◌≡◌, map, take}
-use Rattle.expressions.specs.Tree.{tree_of}
+use Rattle.air_expressions.specs.Tree.{tree_of}
 use Rattle.lookup_model.proofs.copies.copy_tuples.Given as goal
 
 abbrev pub invariant-loop-tuple : goal.invariant-loop-tuple

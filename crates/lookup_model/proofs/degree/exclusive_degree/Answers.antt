@@ -2,7 +2,7 @@ use Rattle.std.proofs.Common.{◌≡◌, ℕ, ◌+◌, ◌≤◌, ◌<◌, max, 
 use Rattle.std.proofs.lemmas.List.{length-map, take_all}
 use Rattle.std.proofs.lemmas.Result.{err_from_is_err_and}
 use Rattle.std.specs.List.{zip}
-use Rattle.lists.proofs.Zips.{length-zipped}
+use Rattle.list_laws.proofs.Zips.{length-zipped}
 use Rattle.lookup_model.proofs.Branches.{length-degrees}
 use Rattle.lookup_model.specs.LookupDegree.{BranchDegrees, expression_degree, greatest, lookup_branch_degrees, tuple_degree}
 use Rattle.lookup_model.proofs.Degrees.{pair_next, pair_within}

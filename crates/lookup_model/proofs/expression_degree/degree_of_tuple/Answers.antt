@@ -1,7 +1,7 @@
 use Rattle.std.proofs.Common.{◌≡◌, arith, ap, ◌∙◌, map, max, rules}
 use Rattle.std.proofs.lemmas.List.{length-map}
 use Rattle.std.proofs.lemmas.Result.{err_from_is_err_and}
-use Rattle.lists.proofs.Images.{mapped_at, mapped_more}
+use Rattle.list_laws.proofs.Images.{mapped_at, mapped_more}
 use Rattle.lookup_model.specs.LookupDegree.{expression_degree}
 use Rattle.lookup_model.proofs.Degrees.{greatest_longer, item_within}
 use Rattle.lookup_model.proofs.expression_degree.degree_of_tuple.Goals as goal

@@ -1,6 +1,6 @@
 use Rattle.std.proofs.Common.{◌≡◌, ◌++◌, map, All}
 use Rattle.std.specs.Vec.Iter.{into_iter_items}
-use Rattle.expressions.specs.declared.layout.AirLayout.{AirLayout}
+use Rattle.air_expressions.specs.declared.layout.AirLayout.{AirLayout}
 use Rattle.lookup_record.specs.Messages.{IsUnitQuery, flag_and_fields, flag_and_key}
 use Rattle.lookup_record.specs.Pushed.{pushed_branch}
 use Rattle.lookup_record.proofs.bus.unit_queries.Given as goal

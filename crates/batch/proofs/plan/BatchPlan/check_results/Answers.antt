@@ -1,8 +1,8 @@
 use Rattle.std.proofs.Common.{◌<◌, List, Option, All, Err, Ok, ap, length, sym, subst, ◌∙◌, arith}
 use Rattle.std.proofs.lemmas.Result.{err_from_is_err_and}
 use Rattle.std.proofs.lemmas.Slice.Zip.{length-zip}
-use Rattle.lists.proofs.Each.{All-there}
-use Rattle.lists.proofs.Zips.{AllZip-held, both_hold_next, pair_at, seconds}
+use Rattle.list_laws.proofs.Each.{All-there}
+use Rattle.list_laws.proofs.Zips.{AllZip-held, both_hold_next, pair_at, seconds}
 use Rattle.field.specs.laws.Extension.{of_laws}
 use Rattle.lookup_model.specs.Batches.Instances.{IsFitting, instance_of}
 use Rattle.lookup_model.specs.Batches.Witnesses.{AirResult, IsSatisfiedAt, results_of}

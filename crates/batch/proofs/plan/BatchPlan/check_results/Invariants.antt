@@ -1,4 +1,4 @@
-use Rattle.lists.proofs.Zips.{BothHoldBelow}
+use Rattle.list_laws.proofs.Zips.{BothHoldBelow}
 use Rattle.field.specs.laws.Extension.{of_laws}
 use Rattle.lookup_model.specs.Batches.Witnesses.{IsSatisfiedAt, results_of}
 use Rattle.batch.specs.Plans.{plan_batch}

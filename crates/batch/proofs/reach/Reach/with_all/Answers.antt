@@ -1,8 +1,8 @@
 use Rattle.std.proofs.Common.{◌↔◌, List, subst, arith}
 use Rattle.std.proofs.lemmas.List.{take_all}
 use Rattle.std.proofs.lemmas.List.Elements.{All-nil}
-use Rattle.expressions.specs.Layout.{Fits}
-use Rattle.expressions.specs.Tree.{tree_of}
+use Rattle.air_expressions.specs.Layout.{Fits}
+use Rattle.air_expressions.specs.Tree.{tree_of}
 use Rattle.lookup_model.specs.Records.{AllFit}
 use Rattle.batch.proofs.ReachLaws.{all_more, one_more}
 use Rattle.batch.specs.Reaches.{StaysWithin}

@@ -1,5 +1,5 @@
 use Rattle.std.proofs.Common.{◌↔◌, take}
-use Rattle.expressions.specs.declared.layout.AirLayout.{AirLayout}
+use Rattle.air_expressions.specs.declared.layout.AirLayout.{AirLayout}
 use Rattle.lookup_model.specs.Records.{AllFit}
 use Rattle.batch.specs.Reaches.{StaysWithin}
 use Rattle.batch.proofs.reach.Reach.with_all.Given as goal

@@ -1,7 +1,7 @@
 use Rattle.std.proofs.Common.{◌↔◌, ℕ, Some, subst, sym}
-use Rattle.expressions.specs.Layout.{EntryFits}
-use Rattle.expressions.specs.declared.layout.AirLayout.{AirLayout}
-use Rattle.expressions.specs.declared.variable.BaseEntry.{BaseEntry}
+use Rattle.air_expressions.specs.Layout.{EntryFits}
+use Rattle.air_expressions.specs.declared.layout.AirLayout.{AirLayout}
+use Rattle.air_expressions.specs.declared.variable.BaseEntry.{BaseEntry}
 use Rattle.batch.specs.Reaches.{StaysWithin}
 use Rattle.batch.specs.declared.reach.Reach.{Reach}
 use Rattle.batch.proofs.reach.Reach.with_variable.Goals as goal

@@ -1,6 +1,6 @@
 use Rattle.std.specs.Prelude.{◌+◌, ◌*◌}
-use Rattle.expressions.specs.Depth.{depth_of}
-use Rattle.expressions.specs.Tree.{tree_of}
+use Rattle.air_expressions.specs.Depth.{depth_of}
+use Rattle.air_expressions.specs.Tree.{tree_of}
 use Rattle.checker_witness.proofs.trace_row.TraceRow.+value.Given as goal
 
 abbrev pub decreases-value_of : goal.decreases-value_of

@@ -1,7 +1,7 @@
 use Rattle.std.proofs.Common.{◌≡◌, ◌==◌, [], ◌∷◌, ℕ, List, Some, ap, arith, length, map, refl, sym, ◌∙◌}
 use Rattle.std.specs.List.{slice_split}
-use Rattle.goldilocks.specs.Goldilocks.{goldilocks_positive}
-use Rattle.goldilocks.specs.Quadratic.{coefficients_of}
+use Rattle.field_goldilocks.specs.Goldilocks.{goldilocks_positive}
+use Rattle.field_goldilocks.specs.Quadratic.{coefficients_of}
 use Rattle.field_words.proofs.WordLaws.{two_again, written_again}
 use Rattle.field_words.proofs.challenge.Goldilocks2ChallengeGoldilocks.from_word.Goals as goal
 

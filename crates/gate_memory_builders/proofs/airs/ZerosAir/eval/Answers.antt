@@ -1,4 +1,4 @@
-use Rattle.expressions.proofs.Assertions.{accepts_all_keep, on_ok}
+use Rattle.air_expressions.proofs.Assertions.{accepts_all_keep, on_ok}
 use Rattle.gate_memory_builders.proofs.airs.ZerosAir.eval.Goals as goal
 
 pub returns : goal.returns

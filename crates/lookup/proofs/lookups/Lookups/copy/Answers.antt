@@ -1,15 +1,15 @@
 use Rattle.std.proofs.Common.{◌≡◌, List, Option, Some, None, map, option_map, length, ap, sym, ◌∙◌, refl}
 use Rattle.std.specs.List.{slice_get}
 use Rattle.std.proofs.lemmas.Option.{slice_get_within}
-use Rattle.lists.proofs.Images.{from_map, map_at, same_length}
-use Rattle.expressions.specs.Tree.{tree_of}
+use Rattle.list_laws.proofs.Images.{from_map, map_at, same_length}
+use Rattle.air_expressions.specs.Tree.{tree_of}
 use Rattle.lookup_model.specs.Outline.{outline_of}
 use Rattle.lookup_model.specs.Records.{AreRecords, HasEqualLengths}
 use Rattle.lookup_model.specs.declared.types.Lookup.{Lookup}
 use Rattle.lookup.specs.Lookups.{lookups_of}
 use Rattle.std.specs.declared.alloc.Global.{Global}
 use Rattle.std.specs.declared.vec.Vec.{Vec}
-use Rattle.expressions.specs.declared.base_expression.SymbolicExpression.{SymbolicExpression}
+use Rattle.air_expressions.specs.declared.base_expression.SymbolicExpression.{SymbolicExpression}
 use Rattle.lookup.proofs.lookups.Lookups.copy.Goals as goal
 
 -- what is seen in an option is seen of its value

@@ -2,7 +2,7 @@ use Rattle.std.proofs.Common.{Ok, Err, List, All, inl, inr, refl, subst, ◌∙�
 use Rattle.std.proofs.lemmas.Result.{err_from_is_err_and}
 use Rattle.lookup_record.specs.Interaction.{Tuple}
 use Rattle.lookup.specs.Extraction.{IsFaultless, IsFirstLocalRefusal, extraction}
-use Rattle.expressions.specs.declared.layout.AirLayout.{AirLayout}
+use Rattle.air_expressions.specs.declared.layout.AirLayout.{AirLayout}
 use Rattle.lookup_model.specs.Records.{LookupsFit}
 use Rattle.lookup_model.specs.declared.types.Lookup.{Lookup}
 use Rattle.lookup_record.specs.RecordedAir.{recorded_air}

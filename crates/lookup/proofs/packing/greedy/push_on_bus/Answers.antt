@@ -1,7 +1,7 @@
 use Rattle.std.proofs.Common.{rules, ◌≡◌, List, ℕ, None, Some, is_some, option_map, ap, refl, sym, subst, ◌∙◌}
 use Rattle.std.specs.List.{AllZip}
 use Rattle.lookup_model.specs.Outline.{Outline, bus_of, fields_of}
-use Rattle.expressions.specs.declared.base_expression.SymbolicExpression.{SymbolicExpression}
+use Rattle.air_expressions.specs.declared.base_expression.SymbolicExpression.{SymbolicExpression}
 use Rattle.lookup.specs.internal.Fillings.{IsFilled}
 use Rattle.lookup.specs.Buses.{on_bus}
 use Rattle.lookup.specs.Trials.{IsTrialAmong}

@@ -3,8 +3,8 @@ use Rattle.std.proofs.lemmas.Bool.{eqb-true, eqb-false}
 use Rattle.std.proofs.lemmas.List.{nil_from_length}
 use Rattle.std.proofs.lemmas.Option.{slice_get-get_or}
 use Rattle.std.proofs.lemmas.Result.{err_from_is_err_and}
-use Rattle.lookup_evaluation.specs.Asserted.{Asserts}
-use Rattle.lookup_evaluation.proofs.AssertedLaws.{fails_early}
+use Rattle.lookup_constraints.specs.Asserted.{Asserts}
+use Rattle.lookup_constraints.proofs.AssertedLaws.{fails_early}
 use Rattle.lookup.proofs.Evaluations.{evaluates_after, layout_kept}
 use Rattle.lookup.proofs.protocol.LookupProtocol.eval_all.Goals as goal
 

@@ -1,6 +1,6 @@
 use Rattle.std.proofs.Common.{◌∙◌}
 use Rattle.std.proofs.lemmas.Result.{on_ok_weaker}
-use Rattle.lookup_rows.specs.TraceBuilder.{builder_window}
+use Rattle.lookup_messages.specs.TraceBuilder.{builder_window}
 use Rattle.lookup_debug.specs.Contributions.{contributions_at, location_of}
 use Rattle.lookup_debug.specs.internal.Arena.{amounts_in}
 use Rattle.lookup_debug.proofs.AmountNets.{nets_go_on}

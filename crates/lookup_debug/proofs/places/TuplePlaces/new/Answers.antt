@@ -1,7 +1,7 @@
 use Rattle.std.proofs.Common.{◌≤◌, ◌++◌, ◌∷◌, [], ap, arith, length, map, refl, sym, ◌∙◌}
 use Rattle.std.proofs.lemmas.List.{map-append, take_all}
 use Rattle.std.proofs.lemmas.Option.{get_or_from_slice_get, slice_get_within}
-use Rattle.lists.proofs.Images.{images_more}
+use Rattle.list_laws.proofs.Images.{images_more}
 use Rattle.lookup_debug.specs.BusTable.{entry_of, location_and_count_of}
 use Rattle.lookup_debug.specs.internal.Places.{placed_entry}
 use Rattle.lookup_debug.proofs.PlaceLaws.{entry_is}

@@ -5,7 +5,7 @@ use Rattle.std.specs.Cmp.Lexicographic.{pointwise}
 use Rattle.std.specs.Map.{lookup}
 use Rattle.std.specs.Vec.{with_item}
 use Rattle.lookup_model.specs.Sent.{values}
-use Rattle.lookup_rows.specs.TraceBuilder.{builder_window}
+use Rattle.lookup_messages.specs.TraceBuilder.{builder_window}
 use Rattle.lookup_debug.specs.Contributions.{Contribution, location_of}
 use Rattle.lookup_debug.specs.declared.places.TuplePlaces.{TuplePlaces}
 use Rattle.lookup_debug.specs.internal.Places.{FindsPlaces}

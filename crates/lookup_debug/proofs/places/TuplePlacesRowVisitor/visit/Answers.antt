@@ -2,7 +2,7 @@ use Rattle.std.proofs.Common.{◌∷◌, [], List, arith, subst, sym, take}
 use Rattle.std.proofs.lemmas.List.{take_all}
 use Rattle.lookup_model.proofs.RecordLaws.{tuple_fits}
 use Rattle.lookup_model.specs.Sent.{branches_at, flags_at, values}
-use Rattle.lookup_rows.specs.TraceBuilder.{builder_layout, builder_window}
+use Rattle.lookup_messages.specs.TraceBuilder.{builder_layout, builder_window}
 use Rattle.lookup_debug.specs.Contributions.{Contribution, amounts, contributions_from, location_of, nonzero}
 use Rattle.lookup_debug.specs.internal.Places.{FindsPlaces, places_walk}
 use Rattle.lookup_debug.proofs.AmountLaws.{length-sized, sized_more}

@@ -1,6 +1,6 @@
 use Rattle.std.proofs.Common.{take}
 use Rattle.lookup_model.specs.Sent.{branches_at, flags_at}
-use Rattle.lookup_rows.specs.TraceBuilder.{builder_window}
+use Rattle.lookup_messages.specs.TraceBuilder.{builder_window}
 use Rattle.lookup_debug.specs.Contributions.{amounts, contributions_from, location_of, nonzero}
 use Rattle.lookup_debug.specs.internal.Places.{FindsPlaces}
 use Rattle.lookup_debug.proofs.places.TuplePlacesRowVisitor.visit.Given as goal

@@ -1,6 +1,6 @@
 use Rattle.std.proofs.Common.{arith, ap, drop, length, map, subst, ◌∙◌, ◌+◌, ◌≡◌}
 use Rattle.std.proofs.lemmas.Result.{on_ok_weaker}
-use Rattle.lookup_rows.specs.TraceBuilder.{builder_window}
+use Rattle.lookup_messages.specs.TraceBuilder.{builder_window}
 use Rattle.lookup_debug.specs.BusTable.{saturated_usize}
 use Rattle.lookup_debug.specs.Contributions.{contributions_at, location_of}
 use Rattle.field.specs.Signs.{is_negative}

@@ -1,7 +1,7 @@
 use Rattle.std.proofs.Common.{ap, map, ◌∙◌}
 use Rattle.std.proofs.lemmas.List.{map_push}
 use Rattle.std.specs.List.{zip}
-use Rattle.lists.proofs.Zips.{zip_push}
+use Rattle.list_laws.proofs.Zips.{zip_push}
 use Rattle.lookup_generation.specs.internal.Fraction.{ratio_of}
 use Rattle.lookup_generation.proofs.ratio.Ratios.push.Goals as goal
 

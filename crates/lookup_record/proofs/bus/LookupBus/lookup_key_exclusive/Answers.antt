@@ -1,4 +1,4 @@
-use Rattle.expressions.proofs.Assertions.{on_ok}
+use Rattle.air_expressions.proofs.Assertions.{on_ok}
 use Rattle.lookup_record.proofs.Keys.{branches_within}
 use Rattle.std.proofs.Common.{map, refl}
 use Rattle.lookup_record.specs.Pushed.{pushed_branch, pushed_exclusive}

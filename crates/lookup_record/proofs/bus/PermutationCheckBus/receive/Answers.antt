@@ -1,4 +1,4 @@
-use Rattle.expressions.proofs.Assertions.{on_ok}
+use Rattle.air_expressions.proofs.Assertions.{on_ok}
 use Rattle.std.proofs.Common.{refl}
 use Rattle.lookup_record.specs.Pushed.{pushed_global}
 use Rattle.lookup_record.proofs.Pushes.{pushes_one}

@@ -1,4 +1,4 @@
-use Rattle.expressions.proofs.Assertions.{on_ok}
+use Rattle.air_expressions.proofs.Assertions.{on_ok}
 use Rattle.lookup_record.proofs.bus.PermutationCheckBus.send.Goals as goal
 
 pub returns-clause-layout : goal.returns-clause-layout

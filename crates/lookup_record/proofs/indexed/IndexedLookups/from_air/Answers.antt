@@ -1,6 +1,6 @@
 use Rattle.std.proofs.Common.{Err, inl, inr, refl, subst}
 use Rattle.std.proofs.lemmas.Result.{err_from_is_err_and}
-use Rattle.expressions.specs.declared.layout.AirLayout.{AirLayout}
+use Rattle.air_expressions.specs.declared.layout.AirLayout.{AirLayout}
 use Rattle.lookup_record.specs.IndexedLookups.{Declares}
 use Rattle.lookup_record.proofs.Declared.{declared_from}
 use Rattle.lookup_record.proofs.OwnLayout.{evaluated_as, own_mismatch}

@@ -1,5 +1,5 @@
 use Rattle.std.proofs.lemmas.Simd.{map-map}
-use Rattle.expressions.specs.Tree.{tree_of}
+use Rattle.air_expressions.specs.Tree.{tree_of}
 use Rattle.field.proofs.Items.{copied_more}
 use Rattle.lookup_record.specs.Interaction.{map_branch}
 use Rattle.lookup_record.specs.Records.{branch_of}

@@ -1,5 +1,5 @@
 use Rattle.std.proofs.Common.{◌≡◌, map, take}
-use Rattle.expressions.specs.Tree.{tree_of}
+use Rattle.air_expressions.specs.Tree.{tree_of}
 use Rattle.lookup_record.specs.Interaction.{map_branch}
 use Rattle.lookup_record.specs.Records.{branch_of}
 use Rattle.lookup_record.proofs.interaction.SymbolicExclusiveInteraction.copy.Given as goal

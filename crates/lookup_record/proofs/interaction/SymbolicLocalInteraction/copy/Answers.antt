@@ -1,7 +1,7 @@
 use Rattle.std.proofs.Common.{◌∙◌, ap, arith, map}
 use Rattle.std.proofs.lemmas.List.{take_all}
 use Rattle.std.proofs.lemmas.Simd.{map-map}
-use Rattle.expressions.specs.Tree.{tree_of}
+use Rattle.air_expressions.specs.Tree.{tree_of}
 use Rattle.field.proofs.Items.{copied_more}
 use Rattle.lookup_record.specs.Interaction.{map_tuple}
 use Rattle.lookup_record.specs.Pushed.{tuple_of}

@@ -1,6 +1,6 @@
 use Rattle.std.proofs.Common.{◌∙◌, ap, arith, map}
 use Rattle.std.proofs.lemmas.List.{take_all}
-use Rattle.expressions.specs.ExtTree.{ext_tree_of}
+use Rattle.air_expressions.specs.ExtTree.{ext_tree_of}
 use Rattle.field.proofs.Items.{copied_more}
 use Rattle.lookup_record.proofs.symbolic.InteractionSymbolicBuilder.extension_constraints.Goals as goal
 

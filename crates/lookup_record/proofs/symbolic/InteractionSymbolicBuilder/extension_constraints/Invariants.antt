@@ -1,5 +1,5 @@
 use Rattle.std.proofs.Common.{◌≡◌, map, take}
-use Rattle.expressions.specs.ExtTree.{ext_tree_of}
+use Rattle.air_expressions.specs.ExtTree.{ext_tree_of}
 use Rattle.lookup_record.proofs.symbolic.InteractionSymbolicBuilder.extension_constraints.Given as goal
 
 abbrev pub invariant-loop-constraint : goal.invariant-loop-constraint

@@ -1,5 +1,5 @@
 use Rattle.std.proofs.Common.{All}
-use Rattle.expressions.specs.declared.layout.AirLayout.{AirLayout}
+use Rattle.air_expressions.specs.declared.layout.AirLayout.{AirLayout}
 use Rattle.lookup_tests.proofs.tests.extraction.ones.Given as goal
 
 abbrev pub invariant-loop : goal.invariant-loop

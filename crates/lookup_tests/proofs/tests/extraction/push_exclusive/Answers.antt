@@ -1,5 +1,5 @@
 use Rattle.std.proofs.lemmas.List.Elements.{All-map, All-push}
-use Rattle.expressions.proofs.Assertions.{on_ok}
+use Rattle.air_expressions.proofs.Assertions.{on_ok}
 use Rattle.lookup_record.specs.Interaction.{Branch}
 use Rattle.lookup_record.specs.Pushed.{pushed_branch}
 use Rattle.lookup_record.specs.Within.{BranchWithin}

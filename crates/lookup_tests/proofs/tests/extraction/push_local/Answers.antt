@@ -1,5 +1,5 @@
 use Rattle.std.proofs.lemmas.List.Elements.{All-map, All-push}
-use Rattle.expressions.proofs.Assertions.{on_ok}
+use Rattle.air_expressions.proofs.Assertions.{on_ok}
 use Rattle.lookup_record.specs.Interaction.{Tuple}
 use Rattle.lookup_record.specs.Pushed.{tuple_of}
 use Rattle.lookup_record.specs.Within.{TupleWithin}

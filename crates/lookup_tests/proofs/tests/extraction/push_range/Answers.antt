@@ -1,6 +1,6 @@
 use Rattle.std.proofs.Common.{◌++◌, ◌∷◌, [], List, ap, subst, sym, ◌∙◌}
 use Rattle.std.proofs.lemmas.List.Elements.{All-cons, All-nil}
-use Rattle.expressions.proofs.Assertions.{on_ok}
+use Rattle.air_expressions.proofs.Assertions.{on_ok}
 use Rattle.lookup_record.specs.Interaction.{Tuple}
 use Rattle.lookup_record.specs.Pushed.{pushed_local, tuple_of}
 use Rattle.lookup_record.specs.Within.{IsInteractionWithin, TupleWithin}

@@ -1,4 +1,4 @@
-use Rattle.expressions.proofs.Assertions.{on_ok}
+use Rattle.air_expressions.proofs.Assertions.{on_ok}
 use Rattle.lookup_tests.proofs.tests.extraction.query_keys.Goals as goal
 
 pub returns-clause-within : goal.returns-clause-within

@@ -1,6 +1,6 @@
 use Rattle.std.proofs.Common.{lit≤, refl}
 use Rattle.air.proofs.RecordedRows.{base_row_means, base_row_within}
-use Rattle.expressions.specs.declared.variable.BaseEntry.TheVariants.{Main}
+use Rattle.air_expressions.specs.declared.variable.BaseEntry.TheVariants.{Main}
 use Rattle.air.proofs.recording.builder.SymbolicAirBuilderAirBuilder.main.Goals as goal
 
 pub returns-clause-current : goal.returns-clause-current

@@ -1,6 +1,6 @@
 use Rattle.std.proofs.Common.{lit≤, refl}
 use Rattle.air.proofs.RecordedRows.{base_row_means, base_row_within}
-use Rattle.expressions.specs.declared.variable.BaseEntry.TheVariants.{Preprocessed}
+use Rattle.air_expressions.specs.declared.variable.BaseEntry.TheVariants.{Preprocessed}
 use Rattle.air.proofs.recording.builder.SymbolicAirBuilderAirBuilder.preprocessed.Goals as goal
 
 pub returns-clause-current : goal.returns-clause-current

@@ -1,6 +1,6 @@
 use Rattle.std.proofs.Common.{refl}
 use Rattle.air.proofs.RecordedRows.{base_row_degree, base_row_means, base_row_within}
-use Rattle.expressions.specs.declared.variable.BaseEntry.TheVariants.{Public}
+use Rattle.air_expressions.specs.declared.variable.BaseEntry.TheVariants.{Public}
 use Rattle.air.proofs.recording.builder.SymbolicAirBuilderAirBuilder.public_values.Goals as goal
 
 pub returns-clause-means : goal.returns-clause-means

@@ -1,6 +1,6 @@
 use Rattle.std.proofs.Common.{refl}
 use Rattle.air.proofs.RecordedRows.{ext_row_means}
-use Rattle.expressions.specs.declared.variable.ExtEntry.TheVariants.{Permutation}
+use Rattle.air_expressions.specs.declared.variable.ExtEntry.TheVariants.{Permutation}
 use Rattle.air.proofs.recording.builder.SymbolicAirBuilderPermutationAirBuilder.permutation.Goals as goal
 
 pub returns-clause-current : goal.returns-clause-current

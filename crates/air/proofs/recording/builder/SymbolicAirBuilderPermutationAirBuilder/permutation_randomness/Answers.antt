@@ -1,6 +1,6 @@
 use Rattle.std.proofs.Common.{refl}
 use Rattle.air.proofs.RecordedRows.{ext_row_degree, ext_row_means}
-use Rattle.expressions.specs.declared.variable.ExtEntry.TheVariants.{Challenge}
+use Rattle.air_expressions.specs.declared.variable.ExtEntry.TheVariants.{Challenge}
 use Rattle.air.proofs.recording.builder.SymbolicAirBuilderPermutationAirBuilder.permutation_randomness.Goals as goal
 
 pub returns-clause-means : goal.returns-clause-means

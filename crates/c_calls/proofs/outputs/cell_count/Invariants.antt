@@ -1,0 +1,7 @@
+use Rattle.std.proofs.Common.{◌≡◌, length, take}
+use Rattle.std.specs.List.{flat_map}
+use Rattle.c_calls.specs.Outputs.{output_cells}
+use Rattle.c_calls.proofs.outputs.cell_count.Given as goal
+
+abbrev pub invariant-loop-trace : goal.invariant-loop-trace
+invariant-loop-trace g l = l.count ≡ length (flat_map output_cells (take l.trace-index l.traces))

@@ -1,0 +1,86 @@
+//! The program `lookup-check`: `run` of `check_run` over the words of the command line, the files
+//! that they name and the standard streams.
+#![tactic(auto)]
+
+mod files;
+mod steps;
+
+use check_report::RunRefusal;
+use check_run::{Inputs, refuse, run};
+use check_words::{Asked, BatchRequest, Task, WordsRefusal, asked};
+use files::{ReadFiles, read_files};
+use std::process::ExitCode;
+use std::{env, fs, io};
+use steps::Steps;
+
+fn main(rt: HostRuntime) -> ExitCode {
+    let alloc = rt.alloc();
+    let words = match env::args(&rt) {
+        Ok(words) => words.skip(1).collect(alloc),
+        Err(error) if error.kind() == io::ErrorKind::InvalidData => Ok(Vec::new(alloc)),
+        Err(_) => return refuse(RunRefusal::Memory, &mut rt.stderr()),
+    };
+    match words {
+        Ok(words) => over_files(&rt, words.as_slice()),
+        Err(_) => refuse(RunRefusal::Memory, &mut rt.stderr()),
+    }
+}
+
+/// Runs over the files that the words name. Words that ask for nothing are told by `run`.
+fn over_files(rt: &HostRuntime, words: &[String]) -> ExitCode {
+    let request = match asked(rt.alloc(), words) {
+        Ok(Asked::Batch(request)) => Some(request),
+        Err(WordsRefusal::Memory) => return refuse(RunRefusal::Memory, &mut rt.stderr()),
+        _ => None,
+    };
+    let steps = Steps::of(rt, request);
+    let files = match read_files(rt, steps, request) {
+        Ok(files) => files,
+        Err(refusal) => return refuse(refusal, &mut rt.stderr()),
+    };
+    let ReadFiles {
+        text,
+        named,
+        witness,
+    } = &files;
+    let inputs = Inputs {
+        text: text.as_slice(),
+        files: named.as_slice(),
+        witness: witness.as_slice(),
+    };
+    steps.tell(rt, "answering");
+    let status = match file_out(request) {
+        Some(file) => run_to_file(rt, words, inputs, file),
+        None => run(
+            rt.alloc(),
+            words,
+            inputs,
+            &mut rt.stdout(),
+            &mut rt.stderr(),
+        ),
+    };
+    steps.tell(rt, "done");
+    status
+}
+
+/// The file that the answer is written to, if one is named.
+fn file_out<'a>(request: Option<BatchRequest<'a>>) -> Option<&'a str> {
+    match request?.task {
+        Task::Witness { out, .. } => out,
+        _ => None,
+    }
+}
+
+/// Runs, and writes the answer to a file. A run that is refused leaves the file as it is.
+fn run_to_file(rt: &HostRuntime, words: &[String], inputs: Inputs<'_>, file: &str) -> ExitCode {
+    let alloc = rt.alloc();
+    let mut answer = Vec::new(alloc);
+    let status = run(alloc, words, inputs, &mut answer, &mut rt.stderr());
+    if status == ExitCode::from(2) || fs::write(rt, file, answer.as_slice()).is_ok() {
+        return status;
+    }
+    match RunRefusal::of_file(alloc, file.as_bytes(), "cannot be written") {
+        Ok(refusal) => refuse(refusal, &mut rt.stderr()),
+        Err(_) => refuse(RunRefusal::Memory, &mut rt.stderr()),
+    }
+}

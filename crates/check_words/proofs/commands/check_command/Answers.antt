@@ -1,0 +1,9 @@
+use Rattle.std.proofs.lemmas.Result.{IfOk-weaker}
+use Rattle.check_words.proofs.LineLaws.{with_argument}
+use Rattle.check_words.proofs.commands.check_command.Goals as goal
+
+pub returns : goal.returns
+returns c =
+    let with_limit = with_argument _ _ _ _ _ c.in_ok-arg.ensures c.in_ok-file_command.ensures c.limit_arg.ensures in
+    let with_degree = with_argument _ _ _ _ _ c.in_ok-arg-2.ensures with_limit c.degree_arg.ensures in
+    IfOk-weaker c.arg-3.result _ _ (λ m h. with_argument _ _ _ _ _ h with_degree c.json_arg.ensures) c.arg-3.ensures

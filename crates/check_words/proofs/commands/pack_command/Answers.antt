@@ -1,0 +1,8 @@
+use Rattle.std.proofs.lemmas.Result.{IfOk-weaker}
+use Rattle.check_words.proofs.LineLaws.{with_argument}
+use Rattle.check_words.proofs.commands.pack_command.Goals as goal
+
+pub returns : goal.returns
+returns c =
+    let with_wanted_degree = with_argument _ _ _ _ _ c.in_ok-arg.ensures c.in_ok-file_command.ensures c.wanted_degree_arg.ensures in
+    IfOk-weaker c.arg-2.result _ _ (λ m h. with_argument _ _ _ _ _ h with_wanted_degree c.json_arg.ensures) c.arg-2.ensures

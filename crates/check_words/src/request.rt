@@ -1,0 +1,122 @@
+//! What words ask for.
+ghost use Rattle.std.specs.Prelude.{◌≡◌, ◌≢◌, MatchOption};
+ghost use Rattle.check_words.specs.Words.{field_text};
+
+/// The field that a batch is over.
+#[derive(Debug, Clone, Copy, PartialEq, Eq)]
+pub enum FieldName {
+    /// The field of seven elements.
+    F7,
+    /// The extension of degree four of BabyBear.
+    BabyBear4,
+    /// The extension of degree four of KoalaBear.
+    KoalaBear4,
+    /// The extension of degree two of Goldilocks.
+    Goldilocks2,
+}
+
+impl FieldName {
+    /// The field with this name.
+    pub(crate) fn from_name(name: &str) -> Option<FieldName>
+        ensures { MatchOption result ((field : Self) → name.now ≢ field_text field)
+            (λ field. name.now ≡ field_text field) }
+    {
+        match name {
+            "f7" => Some(FieldName::F7),
+            "babybear4" => Some(FieldName::BabyBear4),
+            "koalabear4" => Some(FieldName::KoalaBear4),
+            "goldilocks2" => Some(FieldName::Goldilocks2),
+            _ => None,
+        }
+    }
+}
+
+/// What the words of a command line ask for.
+#[derive(Debug, Clone, Copy, PartialEq, Eq)]
+pub enum Asked<'a> {
+    /// Something of the batch of a file.
+    Batch(BatchRequest<'a>),
+    /// The bits that are left at this many messages.
+    Bits(BitsRequest),
+}
+
+/// A task about the batch of a file.
+#[derive(Debug, Clone, Copy, PartialEq, Eq)]
+pub struct BatchRequest<'a> {
+    /// The file with the text of the batch.
+    pub file: &'a str,
+    /// The field that the batch is over.
+    pub field: FieldName,
+    /// Whether each step is told.
+    pub progress: bool,
+    /// What is to be done.
+    pub task: Task<'a>,
+}
+
+/// What is to be done with a batch.
+#[derive(Debug, Clone, Copy, PartialEq, Eq)]
+pub enum Task<'a> {
+    /// Say whether the batch balances. Of each bus and of each tuple, `limit` faults are told.
+    Check {
+        limit: usize,
+        degree: usize,
+        json: bool,
+    },
+    /// Say what holds of its AIRs, as far as no trace is needed, and whether `target` bits are
+    /// reached.
+    Plan {
+        degree: usize,
+        json: bool,
+        target: Option<u64>,
+    },
+    /// Say which of its lookups share a column within `degree`.
+    Pack {
+        degree: usize,
+        json: bool,
+    },
+    /// Write its lookups.
+    Show {
+        json: bool,
+    },
+    /// Write its auxiliary traces and terminals at these challenges, to the file `out` if one is
+    /// named.
+    Witness {
+        challenges: ChallengeWords<'a>,
+        out: Option<&'a str>,
+    },
+    /// Say whether the witness in the file `witness` is accepted at these challenges.
+    Accept {
+        challenges: ChallengeWords<'a>,
+        witness: &'a str,
+    },
+    /// Say whether any witness is accepted at these challenges.
+    Any {
+        challenges: ChallengeWords<'a>,
+    },
+}
+
+/// Two challenges, as they were written. Whether they are elements is not judged here.
+#[derive(Debug, Clone, Copy, PartialEq, Eq)]
+pub struct ChallengeWords<'a> {
+    /// The first challenge.
+    pub alpha: &'a str,
+    /// The second challenge.
+    pub beta: &'a str,
+}
+
+/// How many bits are left, where so many messages are sent.
+#[derive(Debug, Clone, Copy, PartialEq, Eq)]
+pub struct BitsRequest {
+    /// The field that the challenges are from.
+    pub field: FieldName,
+    /// How many distinct messages there are at most.
+    pub messages: u64,
+    /// How many of them do not balance.
+    pub unbalanced: u64,
+    /// The most values of a message.
+    pub width: u64,
+    /// The bits that are wanted, if any.
+    pub target: Option<u64>,
+    /// Whether the answer is JSON.
+    pub json: bool,
+}

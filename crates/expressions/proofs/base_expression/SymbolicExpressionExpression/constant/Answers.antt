@@ -1,5 +1,0 @@
-use Rattle.std.proofs.Common.{refl}
-use Rattle.expressions.proofs.base_expression.SymbolicExpressionExpression.constant.Goals as goal
-
-pub returns : goal.returns
-returns g c = refl

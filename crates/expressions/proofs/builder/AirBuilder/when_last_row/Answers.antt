@@ -1,7 +1,0 @@
-use Rattle.expressions.proofs.builder.AirBuilder.when_last_row.Goals as goal
-
-pub returns-clause-condition : goal.returns-clause-condition
-returns-clause-condition g c = c.is_last_row-condition.ensures.means
-
-pub returns-clause-degree : goal.returns-clause-degree
-returns-clause-degree g c = c.is_last_row-condition.ensures.degree

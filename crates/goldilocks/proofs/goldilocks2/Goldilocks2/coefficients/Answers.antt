@@ -1,6 +1,0 @@
-use Rattle.std.proofs.Common.{ap}
-use Rattle.goldilocks.specs.Quadratic.{coefficients_of}
-use Rattle.goldilocks.proofs.goldilocks2.Goldilocks2.coefficients.Goals as goal
-
-pub returns : goal.returns
-returns c = ap coefficients_of c.self.view_is

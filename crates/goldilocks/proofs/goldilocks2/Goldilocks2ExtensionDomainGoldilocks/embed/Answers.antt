@@ -1,7 +1,0 @@
-use Rattle.std.proofs.Common.{refl}
-use Rattle.field.specs.Residue.{residue_same}
-use Rattle.goldilocks.specs.laws.QuadraticField.{quadratic_same}
-use Rattle.goldilocks.proofs.goldilocks2.Goldilocks2ExtensionDomainGoldilocks.embed.Goals as goal
-
-pub returns : goal.returns
-returns c = quadratic_same _ _ (residue_same _ _ refl) (residue_same _ _ refl)

@@ -1,7 +1,0 @@
-use Rattle.std.proofs.Common.{◌≡◌, map, take}
-use Rattle.batch.specs.Traces.{view_of}
-use Rattle.lookup_c.specs.Inputs.{view_of_read}
-use Rattle.lookup_c.proofs.batch_tables.plan_traces.Given as goal
-
-abbrev pub invariant-loop-air : goal.invariant-loop-air
-invariant-loop-air g l = map view_of l.all.items ≡ map view_of_read (take l.air-index l.traces)

@@ -1,6 +1,0 @@
-use Rattle.std.proofs.Common.{take}
-use Rattle.lookup_c.specs.BatchTables.{AreSetsOfTables}
-use Rattle.lookup_c.proofs.batch_tables.sets_of.Given as goal
-
-abbrev pub invariant-loop-index : goal.invariant-loop-index
-invariant-loop-index g l = AreSetsOfTables (take l.index l.airs) l.sets.items

@@ -1,6 +1,0 @@
-use Rattle.std.proofs.Common.{take}
-use Rattle.lookup_c.specs.DebugCheck.{AreDebugSets}
-use Rattle.lookup_c.proofs.debug_check.table_sets.Given as goal
-
-abbrev pub invariant-loop-index : goal.invariant-loop-index
-invariant-loop-index g l = AreDebugSets (take l.index l.airs) l.sets.items

@@ -1,7 +1,0 @@
-use Rattle.std.proofs.Common.{◌≡◌, ◌++◌, map, take}
-use Rattle.std.specs.List.{flat_map}
-use Rattle.lookup_c.specs.GroupNumbers.{place_numbers}
-use Rattle.lookup_c.proofs.group_numbers.push_places.Given as goal
-
-abbrev pub invariant-loop-place : goal.invariant-loop-place
-invariant-loop-place g l = l.numbers.items ≡ l.initial.numbers.items ++ flat_map place_numbers (take l.place-index l.places)

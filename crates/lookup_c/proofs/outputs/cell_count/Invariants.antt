@@ -1,7 +1,0 @@
-use Rattle.std.proofs.Common.{◌≡◌, length, take}
-use Rattle.std.specs.List.{flat_map}
-use Rattle.lookup_c.specs.Outputs.{output_cells}
-use Rattle.lookup_c.proofs.outputs.cell_count.Given as goal
-
-abbrev pub invariant-loop-trace : goal.invariant-loop-trace
-invariant-loop-trace g l = l.count ≡ length (flat_map output_cells (take l.trace-index l.traces))

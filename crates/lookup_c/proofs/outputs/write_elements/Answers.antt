@@ -1,5 +1,0 @@
-use Rattle.lookup_c.proofs.WrittenLaws.{written_none}
-use Rattle.lookup_c.proofs.outputs.write_elements.Goals as goal
-
-pub loop-index-init : goal.loop-index-init
-loop-index-init g c = written_none c.args.cells.now c.args.at

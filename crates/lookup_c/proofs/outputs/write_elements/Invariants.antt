@@ -1,6 +1,0 @@
-use Rattle.std.proofs.Common.{◌≡◌, ◌+◌, ◌++◌, map, take}
-use Rattle.lookup_tables.specs.Numbers.{numbers_of}
-use Rattle.lookup_c.proofs.outputs.write_elements.Given as goal
-
-abbrev pub invariant-loop-index : goal.invariant-loop-index
-invariant-loop-index g l = take (l.at + l.index) l.cells ≡ take l.at l.initial.cells ++ map numbers_of (take l.index l.values)

@@ -1,6 +1,0 @@
-use Rattle.std.proofs.Common.{◌≡◌, map, take}
-use Rattle.lookup_c.specs.Outputs.{terminal_numbers}
-use Rattle.lookup_c.proofs.outputs.write_terminals.Given as goal
-
-abbrev pub invariant-loop-index : goal.invariant-loop-index
-invariant-loop-index g l = take l.index l.terminals ≡ map terminal_numbers (take l.index l.values)

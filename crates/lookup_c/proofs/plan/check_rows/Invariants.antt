@@ -1,7 +1,0 @@
-use Rattle.std.proofs.Common.{◌≡◌, ◌<◌, ℕ, Some, slice_get}
-use Rattle.lookup_c.specs.Plan.{HasRows}
-use Rattle.lookup_c.specs.declared.batch_tables.Air.{Air}
-use Rattle.lookup_c.proofs.plan.check_rows.Given as goal
-
-abbrev pub invariant-loop-index : goal.invariant-loop-index
-invariant-loop-index l = (k : ℕ) (other : Air) → k < l.index → slice_get l.airs k ≡ Some other → HasRows other

@@ -1,5 +1,0 @@
-use Rattle.lookup_tables.specs.Numbers.{AreNumberGroupsBelow}
-use Rattle.lookup_c.proofs.shift.first_large_cell.Given as goal
-
-abbrev pub invariant-loop-index : goal.invariant-loop-index
-invariant-loop-index g l = AreNumberGroupsBelow g.row.P l.index l.cells

@@ -1,5 +1,0 @@
-use Rattle.std.proofs.Common.{◌∙◌}
-use Rattle.lookup_c.proofs.soundness_count.linear_bound.Goals as goal
-
-pub returns : goal.returns
-returns c = λ W is. c.halves.ensures ∙ c.linear_bad_betas.ensures W is

@@ -1,5 +1,0 @@
-use Rattle.lookup_c.proofs.JoinedLaws.{rows_join_of}
-use Rattle.lookup_c.proofs.theorems.rows_join.Goals as goal
-
-pub returns : goal.returns
-returns g c = rows_join_of g.K.MontyParameters.positive _ c.ranges_join.ensures

@@ -1,0 +1,8 @@
+use Rattle.std.proofs.Common.{◌≡◌, take}
+use Rattle.lookup_model.specs.Sent.{values}
+use Rattle.lookup_messages.specs.TraceBuilder.{builder_window}
+use Rattle.lookup_messages.proofs.messages.tuple_values.Given as goal
+
+abbrev pub invariant-loop-element : goal.invariant-loop-element
+invariant-loop-element g l =
+    l.values.items ≡ values g.F.PrimeCharacteristicRing.ring (builder_window l.builder) (take l.element-index l.tuple)

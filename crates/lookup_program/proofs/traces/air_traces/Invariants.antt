@@ -1,7 +1,0 @@
-use Rattle.std.proofs.Common.{take}
-use Rattle.std.specs.List.{AllZip}
-use Rattle.lookup_program.specs.internal.Traces.{IsTraceOf}
-use Rattle.lookup_program.proofs.traces.air_traces.Given as goal
-
-abbrev pub invariant-loop-air : goal.invariant-loop-air
-invariant-loop-air g l = AllZip (IsTraceOf g.F.PrimeCharacteristicRing.ring g.F.PartialEq.eq l.input) (take l.air-index l.air-items) l.traces.items

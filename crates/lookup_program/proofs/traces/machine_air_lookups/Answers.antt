@@ -1,6 +1,0 @@
-use Rattle.lookup_program.proofs.ExtractedLaws.{air_lookups}
-use Rattle.lookup_program.proofs.traces.machine_air_lookups.Goals as goal
-
-pub returns : goal.returns
-returns g c =
-    air_lookups _ _ g.F.PrimeCharacteristicRing.ring g.F.PartialEq.eq c.args.air c.from_air.result c.from_air.ensures.extracts c.from_air.ensures.within

@@ -1,8 +1,0 @@
-use Rattle.std.proofs.Common.{◌≡◌}
-use Rattle.std.specs.List.{flat_map, range_with_len}
-use Rattle.matrix.specs.Matrix.{row}
-use Rattle.lookup_program.specs.Machines.{machine_air_cells}
-use Rattle.lookup_program.proofs.traces.trace_for.Given as goal
-
-abbrev pub invariant-loop-row : goal.invariant-loop-row
-invariant-loop-row g l = l.values.items ≡ flat_map (λ r. machine_air_cells l.air (row l.input r)) (range_with_len 0 l.row)

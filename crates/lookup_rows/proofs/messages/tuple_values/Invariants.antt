@@ -1,8 +1,0 @@
-use Rattle.std.proofs.Common.{◌≡◌, take}
-use Rattle.lookup_model.specs.Sent.{values}
-use Rattle.lookup_rows.specs.TraceBuilder.{builder_window}
-use Rattle.lookup_rows.proofs.messages.tuple_values.Given as goal
-
-abbrev pub invariant-loop-element : goal.invariant-loop-element
-invariant-loop-element g l =
-    l.values.items ≡ values g.F.PrimeCharacteristicRing.ring (builder_window l.builder) (take l.element-index l.tuple)

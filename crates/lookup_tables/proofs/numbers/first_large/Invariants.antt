@@ -1,5 +1,0 @@
-use Rattle.lookup_tables.specs.Numbers.{AreNumbersBelow}
-use Rattle.lookup_tables.proofs.numbers.first_large.Given as goal
-
-abbrev pub invariant-loop-index : goal.invariant-loop-index
-invariant-loop-index g l = AreNumbersBelow g.row.P l.index l.numbers

@@ -1,9 +1,0 @@
-use Rattle.std.proofs.Common.{◌++◌, map}
-use Rattle.std.specs.Vec.Iter.{into_iter_items}
-use Rattle.expressions.specs.Tree.{tree_of}
-use Rattle.lookup_tables.specs.Nodes.{NodesAreTrees}
-use Rattle.lookup_tables.proofs.StackLaws.{trees}
-use Rattle.lookup_tables.proofs.reader.read_expressions.Given as goal
-
-abbrev pub invariant-loop-part : goal.invariant-loop-part
-invariant-loop-part g l = NodesAreTrees (map tree_of l.expressions.items ++ trees (into_iter_items l.part-iterator)) l.fn.nodes

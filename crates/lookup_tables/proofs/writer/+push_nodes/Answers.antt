@@ -1,7 +1,0 @@
-use Rattle.std.proofs.Common.{inr}
-use Rattle.expressions.specs.Tree.{tree_of}
-use Rattle.lookup_tables.proofs.WriterLaws.{none_within}
-use Rattle.lookup_tables.proofs.writer.+push_nodes.Goals as goal
-
-pub returns-then-depth-eq0 : goal.returns-then-depth-eq0
-returns-then-depth-eq0 g t c = inr (none_within (tree_of c.args.expression.now) c.args.depth c.if-depth-eq0.true)

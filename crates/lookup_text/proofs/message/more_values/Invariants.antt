@@ -1,9 +1,0 @@
-use Rattle.std.proofs.Common.{◌≡◌, ◌-◌, ◌∷◌, [], length, map}
-use Rattle.lookup_text.specs.Formulas.{formula_of}
-use Rattle.lookup_text.specs.Lists.{many, with_front}
-use Rattle.lookup_text.specs.Messages.{more_formula}
-use Rattle.lookup_text.proofs.message.more_values.Given as goal
-
--- the expressions so far and those that are left are those of the tuple
-abbrev pub invariant-loop : goal.invariant-loop
-invariant-loop l = with_front (map formula_of l.values.items) (many more_formula (length l.tokens - l.counter) l.left) ≡ with_front (formula_of l.fn.first ∷ []) (many more_formula (length l.tokens) l.tokens)

@@ -1,9 +1,0 @@
-use Rattle.lookup_text.proofs.GrammarLaws.{formula_found}
-use Rattle.lookup_text.proofs.ReadingLaws.{sum_read}
-use Rattle.lookup_text.proofs.theorems.formulas_are_said.Goals as goal
-
-pub returns-clause-found : goal.returns-clause-found
-returns-clause-found c = λ ts rest f e. formula_found 1024 ts rest f e
-
-pub returns-clause-only : goal.returns-clause-only
-returns-clause-only c = λ ts rest f said over. sum_read 1024 ts rest f said over

@@ -1,9 +1,0 @@
-use Rattle.std.proofs.lemmas.Result.{IfOk-weaker}
-use Rattle.lookup_words.proofs.LineLaws.{with_argument}
-use Rattle.lookup_words.proofs.commands.bits_command.Goals as goal
-
-pub returns : goal.returns
-returns c =
-    let with_field = with_argument _ _ _ _ _ c.in_ok-arg.ensures c.in_ok-message_bits.ensures c.field_arg.ensures in
-    let with_target = with_argument _ _ _ _ _ c.in_ok-arg-2.ensures with_field c.target_arg.ensures in
-    IfOk-weaker c.arg-3.result _ _ (λ m h. with_argument _ _ _ _ _ h with_target c.json_arg.ensures) c.arg-3.ensures

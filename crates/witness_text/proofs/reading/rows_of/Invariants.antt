@@ -1,6 +1,0 @@
-use Rattle.witness_text.specs.Lines.{IsPlainlyShaped}
-use Rattle.witness_text.proofs.reading.rows_of.Given as goal
-
--- what is read so far is plainly shaped
-abbrev pub invariant-loop-line : goal.invariant-loop-line
-invariant-loop-line g l = IsPlainlyShaped l.reading.witness
