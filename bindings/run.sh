@@ -1,8 +1,8 @@
 #!/bin/sh
 # Builds the static library and runs the tests of its calls: in C, with gcc, and of the crate for Rust,
-# with cargo; and the programs of docs/C.md, docs/SCALE.md and docs/RUST.md. The packages for Rust have to be formatted; of
-# that for Plonky3, whose dependencies come from a registry, nothing else is tested. Otherwise it needs the kit's command
-# rt alone.
+# with cargo; the examples in bindings/c, and the program of docs/guide/RUST_AND_C.md. The packages for Rust have to be
+# formatted; of that for Plonky3, whose dependencies come from a registry, nothing else is tested. Otherwise it needs the
+# kit's command rt alone.
 #
 # usage: bindings/run.sh                   proves the library first, if that has not been done from these sources
 #        bindings/run.sh --archive PATH    tests the library that is there, and proves nothing
@@ -42,23 +42,34 @@ is_missing() {
     echo "bindings/run.sh: $1 is missing, so $2" >&2
 }
 
+guide=docs/guide/RUST_AND_C.md
+
 # A block of a language in a file, the first one unless it is said which.
 block() {
     awk -v start="\`\`\`$2" -v which="${3:-1}" \
         '$0 == "```" { on = 0 } on { print } $0 == start && ++n == which { on = 1 }' "$1"
 }
 
-# Builds a program of a document, and compares what it writes with what is shown there.
-run_program() {
-    block "$1" c "$2" >"$work/program.c"
-    block "$1" text "$2" >"$work/expected"
-    gcc $flags -std=c99 -Ibindings/c "$work/program.c" -o "$work/program" "$library" "$heap" -lpthread
+# Builds an example, and compares what it writes with the text beside it.
+run_example() {
+    gcc $flags -std=c99 -Ibindings/c "$1" -o "$work/program" "$library" "$heap" -lpthread
     "$work/program" >"$work/output"
-    diff "$work/expected" "$work/output"
+    diff "${1%.c}.txt" "$work/output"
+}
+
+# Whether a file has this text, as a document shows it.
+shows() {
+    case $(cat "$1") in
+    *"$2"*) ;;
+    *)
+        echo "bindings/run.sh: $guide does not show what $1 has" >&2
+        exit 1
+        ;;
+    esac
 }
 
 # The header alone, as C99 and as C++17, and that an answer that is not looked at gives a warning. Then the
-# test, the fuzz target over inputs of its own, and the programs of docs/C.md and docs/SCALE.md.
+# test, the fuzz target over inputs of its own, and the examples, of which the guide shows a part of the first.
 test_c() {
     say "testing the calls from C"
     flags="-Wall -Wextra -Werror -pedantic -O1"
@@ -80,11 +91,12 @@ test_c() {
     "$work/test"
     gcc $flags -std=c99 -DFIXED_INPUTS -Ibindings/c bindings/c/fuzz.c -o "$work/fuzz" "$library" "$heap"
     "$work/fuzz"
-    run_program docs/C.md 1
-    run_program docs/C.md 2
-    run_program docs/C.md 3
-    run_program docs/SCALE.md 1
-    echo "the programs of docs/C.md and docs/SCALE.md write what is shown there"
+    shows bindings/c/examples/keys.c "$(block "$guide" c 1)"
+    shows bindings/c/examples/keys.c "$(block "$guide" c 2)"
+    for example in bindings/c/examples/*.c; do
+        run_example "$example"
+    done
+    echo "the examples in C write what they have to"
 }
 
 # A library of another interface: the call that has the number in its name has another name.
@@ -121,18 +133,12 @@ link() {
     gcc -O2 $unread -Ibindings/c "$work/program.c" -o "$work/program" "$1" "$heap"
 }
 
-# The packages for Rust are as the formatter writes them, and docs/PLONKY3.md shows what its example has.
+# The packages for Rust are as the formatter writes them, and the guide shows what the example for Plonky3 has.
 test_formatting() {
     for package in rust rust/fuzz plonky3; do
         cargo fmt --check --manifest-path "bindings/$package/Cargo.toml"
     done
-    case $(cat bindings/plonky3/examples/audit.rs) in
-    *"$(block docs/PLONKY3.md rust)"*) ;;
-    *)
-        echo "bindings/run.sh: docs/PLONKY3.md does not show what bindings/plonky3/examples/audit.rs has" >&2
-        exit 1
-        ;;
-    esac
+    shows bindings/plonky3/examples/audit.rs "$(block "$guide" rust 2)"
     echo "the packages for Rust are formatted"
 }
 
@@ -142,15 +148,15 @@ test_rust() {
     (cd bindings/rust && cargo test --quiet --offline --locked)
 }
 
-# The program of docs/RUST.md, in a package of its own.
+# The program of the guide, in a package of its own.
 try_program() {
     cargo new --quiet --vcs none "$work/keys"
-    block docs/RUST.md rust >"$work/keys/src/main.rs"
-    block docs/RUST.md text >"$work/expected"
+    block "$guide" rust >"$work/keys/src/main.rs"
+    block "$guide" text >"$work/expected"
     (cd "$work/keys" && cargo add --quiet --offline --path "$top/bindings/rust" &&
         cargo run --quiet --offline) >"$work/output"
     diff "$work/expected" "$work/output"
-    echo "the program of docs/RUST.md writes what is shown there"
+    echo "the program of $guide writes what is shown there"
 }
 
 # That program over a library of another interface.

@@ -1,7 +1,7 @@
 #!/usr/bin/env bash
-# docs/DEFINITIONS.md is what tools/definitions makes of the comments in specs/, and no public contract rests on a
-# definition in specs/internal/.
+# Every public definition in specs/ has a comment. No public contract rests on a definition in specs/internal/, and one
+# rests on each other module of definitions.
 set -eu
 cd "$(dirname "${BASH_SOURCE[0]}")/../.."
 tools/definitions --check
-echo "docs/DEFINITIONS.md has the definitions of all crates"
+echo "the definitions of all crates have comments, and are public or internal as their contracts are"

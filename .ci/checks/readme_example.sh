@@ -1,11 +1,13 @@
 #!/usr/bin/env bash
-# Each block of the README's example stands, apart from layout, in the test that runs it, and the one from
-# Rust in the program of docs/RUST.md, which .ci/checks/bindings.sh runs. The first run is the program's stored one, and
-# the lines of a report are those of a stored run. The code of docs/FIRST_AIR.md is that of the test and what it calls.
+# Each block of the README's example is, apart from layout, in the test that runs it, and the one from Rust in the program
+# of docs/guide/RUST_AND_C.md, which .ci/checks/bindings.sh runs. The first run is the program's stored one, and the lines
+# of a report are those of a stored run. The code of docs/guide/RATTLE.md is that of the test and what it calls. Each run
+# of the programs that docs/guide/CHECK.md shows is a stored one.
 set -eu
 cd "$(dirname "${BASH_SOURCE[0]}")/../.."
 test=crates/batch_tests/src/tests/example.rt
-program=docs/RUST.md
+program=docs/guide/RUST_AND_C.md
+rattle=docs/guide/RATTLE.md
 room=$(mktemp -d)
 trap 'rm -r "$room"' EXIT
 # Writes each block of code in Rust of the file $1 to a file of its own in the folder $2.
@@ -14,7 +16,7 @@ blocks_of() {
   awk -v folder="$2" '/^```rust$/ { n++; on = 1; next } /^```$/ { on = 0 } on { print > (folder "/" n) }' "$1"
 }
 blocks_of README.md "$room/readme"
-# Whether a block, which is not empty, stands in a file.
+# Whether a block, which is not empty, is in a file.
 stands_in() {
   local part whole
   part=$(tr -d ' \n' <"$1")
@@ -33,28 +35,28 @@ for block in "$room/readme"/*; do
     exit 1
   fi
 done
-if [ "$tested" -ne 3 ] || [ "$from_rust" -ne 1 ]; then
-  echo "the README has $tested blocks of $test and $from_rust of $program, and not 3 and 1" >&2
+if [ "$tested" -ne 1 ] || [ "$from_rust" -ne 1 ]; then
+  echo "the README has $tested blocks of $test and $from_rust of $program, and not 1 and 1" >&2
   exit 1
 fi
 echo "the README's example is what $test and the program of $program run"
-blocks_of docs/FIRST_AIR.md "$room/first_air"
+blocks_of "$rattle" "$room/rattle"
 grep -v '^use super::' "$test" >"$room/example.rt"
 helpers=crates/batch_tests/src/tests.rt
-for block in "$room/first_air"/*; do
+for block in "$room/rattle"/*; do
   if ! stands_in "$block" "$room/example.rt" && ! stands_in "$block" "$helpers"; then
-    echo "a block of docs/FIRST_AIR.md is in neither $test nor $helpers: $(head -n 1 "$block")" >&2
+    echo "a block of $rattle is in neither $test nor $helpers: $(head -n 1 "$block")" >&2
     exit 1
   fi
 done
-code=$(cat "$room/first_air"/* | tr -d ' \n')
+code=$(cat "$room/rattle"/* | tr -d ' \n')
 for part in 'ghostevaluates=' 'ghostkeeps_layout=' 'ghostnum_public_values=' '#[test]' 'assert!(rt;'; do
   case $code in
     *"$part"*) ;;
-    *) echo "docs/FIRST_AIR.md has no $part" >&2 && exit 1 ;;
+    *) echo "$rattle has no $part" >&2 && exit 1 ;;
   esac
 done
-echo "the code of docs/FIRST_AIR.md is what $test runs"
+echo "the code of $rattle is what $test runs"
 run=crates/lookup_run
 rows=$(awk '{ printf "%s\\n", $0 }' "$run/stdin")
 words=$(tr '\n' ' ' <"$run/args")
@@ -67,3 +69,14 @@ report=cases/check/cpu-broken.txt
 awk '/examples\/cpu-broken/ { on = 1 } /^    / && on { print substr($0, 5); met = 1; next } met { exit }' README.md >"$room/report"
 sed -n 's/^> //p' "$report" >"$room/stored"
 stands_in "$room/report" "$room/stored" || { echo "the README shows a report that is not in $report" >&2; exit 1; }
+# Each run of lookup-check that the guide shows is a stored one, with all that it writes to standard output.
+shown=0
+while IFS= read -r words; do
+  awk -v words="\$ ./lookup-check $words" '$0 == words { on = 1; next } /^```$/ && on { exit } on' docs/guide/CHECK.md >"$room/shown"
+  awk -v words="\$ $words" '$0 == words { on = 1; next } /^=/ && on { exit } on' cases/check/*.txt | sed -n 's/^> \{0,1\}//p' >"$room/wanted"
+  [ -s "$room/wanted" ] && diff "$room/wanted" "$room/shown" >&2 ||
+    { echo "docs/guide/CHECK.md shows another run than cases/check has: $words" >&2; exit 1; }
+  shown=$((shown + 1))
+done < <(sed -n 's/^\$ \.\/lookup-check //p' docs/guide/CHECK.md)
+[ "$shown" -gt 0 ] || { echo "docs/guide/CHECK.md shows no run" >&2; exit 1; }
+echo "the $shown runs in docs/guide/CHECK.md are those of cases/check"

@@ -24,7 +24,7 @@ class Refused(Exception):
 
 
 class Untold(Exception):
-    """A batch is refused, and docs/CHECK.md does not say with which words."""
+    """A batch is refused, and docs/guide/CHECK.md does not say with which words."""
 
 
 # --- values ---

@@ -1,4 +1,4 @@
-"""What the names of a batch file stand for: each AIR with its tables and lookups, by docs/CHECK.md."""
+"""What the names of a batch file stand for: each AIR with its tables and lookups, by docs/guide/CHECK.md."""
 import collections
 import os
 

@@ -6,8 +6,8 @@ usage: model.py check|plan|pack FILE [--field NAME] [--degree D] [--limit N] [--
        model.py witness|any FILE --alpha A --beta B [--field NAME]
        model.py accept FILE --alpha A --beta B --witness FILE [--field NAME]
 
-It is written from docs/CHECK.md, and shares nothing with the program. Where docs/CHECK.md does not say how a text is
-worded, the pattern of it is written in place of the text.
+It is written from docs/guide/CHECK.md and its reference, CHECK_REFERENCE.md, and shares nothing with the program. Where
+they do not say how a text is worded, the pattern of it is written in place of the text.
 """
 import os
 import re

@@ -1,4 +1,4 @@
-"""Reads a batch file and a table, as docs/CHECK.md says."""
+"""Reads a batch file and a table, as docs/guide/CHECK_REFERENCE.md says."""
 import collections
 import re
 

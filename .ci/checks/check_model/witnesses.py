@@ -215,7 +215,7 @@ def is_odd_at_end(part):
 
 
 def read(text):
-    """The witness that a text says. docs/CHECK.md leaves open whether a text of odd parts is refused."""
+    """The witness that a text says. docs/guide/CHECK.md leaves open whether a text of odd parts is refused."""
     *lines, rest = text.split(b"\n")
     parts, odd = [], []
     for number, line in enumerate(lines, 1):

@@ -9,7 +9,7 @@ import subprocess
 
 from .runs import SECONDS
 
-# How deep an expression each call bears on a stack of STACK bytes: docs/PROMISES.md states it. An even depth, since
+# How deep an expression each call bears on a stack of STACK bytes: docs/model/PROMISES.md states it. An even depth, since
 # negations and differences on the right then leave the value as it is.
 DEPTH, STACK = 500, 1 << 20
 
@@ -107,7 +107,7 @@ def bears(program, kind, form, depth):
 
 
 def depth_swept(_shim, program, kind, _later):
-    """The calls on expressions of each form, as deep as docs/PROMISES.md states, and of two layers."""
+    """The calls on expressions of each form, as deep as docs/model/PROMISES.md states, and of two layers."""
     runs = [(form, depth) for form in FORMS for depth in (2, DEPTH)]
     failed = [(form, depth) for form, depth in runs if not bears(program, kind, form, depth)]
     return len(runs), [f"{kind}: {form} {depth} deep is not borne" for form, depth in failed], {}

@@ -1,4 +1,4 @@
-//! Audits the lookups of an AIR: what `docs/PLONKY3.md` of the repository shows.
+//! Audits the lookups of an AIR: what `docs/guide/RUST_AND_C.md` of the repository shows.
 
 use p3_air::{Air, AirBuilder, BaseAir, WindowAccess};
 use p3_baby_bear::BabyBear;

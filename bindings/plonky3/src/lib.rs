@@ -11,7 +11,7 @@
 //!   of the other.
 //!
 //! All of it is over `BabyBear` or `KoalaBear`, with challenges in the quartic extension of either
-//! ([`SharedField`]). `docs/PLONKY3.md` of the repository says what differs, and what this crate
+//! ([`SharedField`]). `docs/guide/RUST_AND_C.md` of the repository says what differs, and what this crate
 //! cannot do.
 //!
 //! ```

@@ -3,8 +3,9 @@
 //!
 //! The work is done by a static library whose functions are proved to meet their contracts; this
 //! crate only calls it. The package of a release has the library, for Linux on x86_64, and needs no
-//! more than `cargo`. In a clone of the repository it has to be made first: `docs/RUST.md` says how,
-//! and `docs/C.md` what is proved. Documentation alone is made without it where `DOCS_RS` is set.
+//! more than `cargo`. In a clone of the repository it has to be made first:
+//! `docs/guide/RUST_AND_C.md` says how, and what is proved. Documentation alone is made without it
+//! where `DOCS_RS` is set.
 //!
 //! - An [`Expr`] is an expression over a row and the next one. Expressions of your own become one
 //!   by [`Symbolic`].
@@ -48,7 +49,7 @@
 //! on the same AIRs and batches at once. A large batch is worked on by as many threads as there are
 //! processors, or as [`Batch::with_threads`] says. A call needs at most 256 KB of stack, and one that
 //! reads JSON 384 KB. Where the library can get no memory, or there is none for what it writes, a call
-//! answers [`Code::OutOfMemory`]; `docs/RUST.md` lists what ends the program then.
+//! answers [`Code::OutOfMemory`]; `docs/guide/RUST_AND_C.md` lists what ends the program then.
 #![deny(missing_docs, unsafe_code, clippy::undocumented_unsafe_blocks)]
 
 mod air;

@@ -6,7 +6,7 @@
 //! text. Each call is in the file of its name: what it does over any such field, which answers a `Result`, and the
 //! C function over `BabyBear`; those over `KoalaBear` are in `koala_bear` and `koala_bear_checks`. A refused call
 //! leaves the other arrays as they were. No memory and no handle crosses the boundary. `bindings/c/volgwain.h`
-//! declares the calls for C, and docs/C.md says how they are used.
+//! declares the calls for C, and docs/guide/RUST_AND_C.md says how they are used.
 #![tactic(auto)]
 
 mod abi;
