@@ -8,5 +8,5 @@ mod goldilocks;
 mod goldilocks2;
 mod reading;
 
-pub use field_goldilocks::Goldilocks;
+pub use goldilocks::Goldilocks;
 pub use goldilocks2::Goldilocks2;
