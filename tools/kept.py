@@ -10,7 +10,7 @@ import time
 
 from ends import at_end
 from files import sum_of_sources, text_of
-from kit import kit
+from kit import LAUNCHERS, kit
 from lean import lean_kit
 from told import told
 
@@ -57,7 +57,7 @@ class Kept:
     def say(self, text):
         with contextlib.suppress(OSError):
             if sys.stderr:
-                print(f"{self.program.replace('_', '-')}: {text}", file=sys.stderr, flush=True)
+                print(f"{LAUNCHERS[self.program]}: {text}", file=sys.stderr, flush=True)
 
     def path(self, of):
         return f"{self.folder}/{self.field or 'all'}-{of}"

@@ -7,6 +7,8 @@ import subprocess
 import sys
 from importlib import machinery, util
 
+# The programs, by their crates, and what starts each.
+LAUNCHERS = {"lookup_run": "lookup-run", "check_program": "lookup-check"}
 # What a check takes: one to four GB, and several side by side seldom their most at once.
 MEMORY_OF_A_CHECK = 3 << 30
 

@@ -1,10 +1,10 @@
 //! The calls of a lookup argument.
-ghost use Rattle.std.specs.Prelude.{◌≡◌, ◌≢◌, ◌+◌, ◌*◌, ◌≤◌, ◌<◌, [], ◌∷◌, All, MatchResult, length};
+ghost use Rattle.std.specs.Prelude.{◌≡◌, ◌≢◌, ◌+◌, ◌*◌, ◌≤◌, ◌<◌, [], ◌∷◌, All, MatchResult, length, map};
 ghost use Rattle.std.specs.Option.{ForSome, option_copied};
 ghost use Rattle.air.specs.Traces.{air_traces};
 ghost use Rattle.air_expressions.specs.Layout.{layout_of_traces};
 ghost use Rattle.lookup_constraints.specs.Asserted.{EvaluatesOn};
-ghost use Rattle.lookup_model.specs.Constraints.{accumulator_constraints, fraction_constraint, lookup_constraints};
+ghost use Rattle.lookup_model.specs.Constraints.{accumulator_constraints, fraction_constraint, lookup_constraints, terminal_at};
 ghost use Rattle.lookup_model.specs.LookupDegree.{IsDegree, lookup_degree};
 ghost use Rattle.lookup_model.specs.Records.{HasEqualLengths, IsWithin, LookupsFit};
 ghost use Rattle.lookup.specs.Rooms.{HasRoomForLookups};
@@ -15,6 +15,7 @@ ghost use Rattle.matrix.specs.Matrix.{height};
 
 use air::{Air, AirBuilder, AirError, BuilderView, ExtensionBuilder, PermutationAirBuilder};
 use field::{ExtensionField, Field, Over};
+use lookup_constraints::terminal;
 use lookup_model::{Lookup, LookupError, LookupTerminal};
 use matrix::RowMajorMatrix;
 use std::alloc::Global;
