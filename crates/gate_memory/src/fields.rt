@@ -7,6 +7,7 @@ use field::{
     F2, F7, Field, InverseCount, batch_multiplicative_inverse, batch_multiplicative_inverse_into,
     powers,
 };
+use field_monty::{BabyBear, BabyBear4};
 use gate_memory_builders::show::{Out, show};
 use std::alloc::Global;
 
