@@ -1,4 +1,4 @@
-//! The tests of `field`, `goldilocks` and `matrix`: values calculated by hand, texts, and JSON.
+//! The tests of `field`, `field_monty`, `field_goldilocks` and `matrix`: values calculated by hand, texts, and JSON.
 //!
 //! They have a crate of their own, so that the crates that they test are proved once and not twice.
 #![tactic(auto)]
@@ -11,6 +11,8 @@ mod baby_bear4;
 mod batch_inverse;
 #[cfg(test)]
 mod cases;
+#[cfg(test)]
+mod chains;
 #[cfg(test)]
 mod debug;
 #[cfg(test)]
