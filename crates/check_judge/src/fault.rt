@@ -55,7 +55,7 @@ impl From<NameRefusal> for JudgeFault {
 
 /// Out of memory keeps its name.
 impl From<NameFault> for JudgeFault {
-    ghost use Rattle.check_judge.specs.Refusals.{of_batch, of_element, of_name};
+    ghost use Rattle.check_judge.specs.Refusals.{of_name};
 
     ghost from_gives = { λ fault e. e ≡ of_name fault };
 
@@ -69,6 +69,8 @@ impl From<NameFault> for JudgeFault {
 
 /// Out of memory keeps its name.
 impl From<ElementFault> for JudgeFault {
+    ghost use Rattle.check_judge.specs.Refusals.{of_element};
+
     ghost from_gives = { λ fault e. e ≡ of_element fault };
 
     fn from(fault: ElementFault) -> JudgeFault {
@@ -81,6 +83,8 @@ impl From<ElementFault> for JudgeFault {
 
 /// Out of memory keeps its name.
 impl From<BatchError> for JudgeFault {
+    ghost use Rattle.check_judge.specs.Refusals.{of_batch};
+
     ghost from_gives = { λ error e. e ≡ of_batch error };
 
     fn from(error: BatchError) -> JudgeFault {

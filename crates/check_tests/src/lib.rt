@@ -1,5 +1,5 @@
-//! The tests of `language_meaning` over fields and of `check_judge` and `check_run`, in a crate of their own: a crate that has tests
-//! is proved twice.
+//! The tests of `language_meaning` over fields, of `check_judge` and of `check_run`, in a crate of
+//! their own: a crate that has tests is proved twice.
 //!
 //! They show what no contract says: that calls succeed. What the program writes is in `cases/check/`.
 #![tactic(auto)]
