@@ -1,5 +1,5 @@
 //! Builders that record constraints or check them on given rows, the cells of a row for authors of
-//! AIRs, and the traces of an AIR as one value. Re-exports all of `expressions`.
+//! AIRs, and the traces of an AIR as one value. Re-exports all of `air_expressions`.
 #![tactic(auto)]
 
 mod cell;

@@ -1,4 +1,4 @@
-//! The tests of `expressions` and `air`: trees and degrees, layouts, refusals, and AIRs that are
+//! The tests of `air_expressions` and `air`: trees and degrees, layouts, refusals, and AIRs that are
 //! recorded, resolved and checked.
 //!
 //! They have a crate of their own, so that the crates that they test are proved once and not twice.
