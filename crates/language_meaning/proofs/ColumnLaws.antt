@@ -20,8 +20,8 @@ use Rattle.lookup_model.specs.Records.{AreRecords, HasEqualLengths, IsRecordAt}
 use Rattle.lookup_model.specs.declared.types.Lookup.{Lookup}
 use Rattle.language_meaning.specs.Lookups.{Column, SentPart, column_of, sent_part_of}
 use Rattle.language_meaning.specs.Scopes.{bytes_in}
-use Rattle.language_meaning.specs.declared.air.NamedLookup.{NamedLookup}
-use Rattle.language_meaning.specs.declared.air.NamedPart.{NamedPart}
+use Rattle.language_meaning.specs.declared.named_air.NamedLookup.{NamedLookup}
+use Rattle.language_meaning.specs.declared.named_air.NamedPart.{NamedPart}
 use Rattle.language_meaning.specs.Columns.{IsColumnRefusal, IsFirstColumnRefusal, IsMade, flag_or_one, flags_in, outline_in, outlines_in, weight_in}
 use Rattle.language_meaning.specs.Expressions.{tree_in}
 use Rattle.language_meaning.specs.declared.element_fault.ElementFault.{ElementFault}

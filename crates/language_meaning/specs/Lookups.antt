@@ -6,11 +6,11 @@ use Rattle.language.specs.Formulas.{Formula}
 use Rattle.language.specs.Items.{Item, Part, Placed}
 use Rattle.language.specs.Items as items
 use Rattle.language.specs.Messages.{Message}
-use Rattle.language_meaning.specs.declared.air.Added.{Added}
-use Rattle.language_meaning.specs.declared.air.Added.TheVariants as added
-use Rattle.language_meaning.specs.declared.air.NamedAir.{NamedAir}
-use Rattle.language_meaning.specs.declared.air.NamedLookup.{NamedLookup}
-use Rattle.language_meaning.specs.declared.air.NamedPart.{NamedPart}
+use Rattle.language_meaning.specs.declared.named_air.Added.{Added}
+use Rattle.language_meaning.specs.declared.named_air.Added.TheVariants as added
+use Rattle.language_meaning.specs.declared.named_air.NamedAir.{NamedAir}
+use Rattle.language_meaning.specs.declared.named_air.NamedLookup.{NamedLookup}
+use Rattle.language_meaning.specs.declared.named_air.NamedPart.{NamedPart}
 use Rattle.language_meaning.specs.declared.name_fault.NameRefusal.{NameRefusal}
 use Rattle.language_meaning.specs.declared.name_fault.NameWhy.TheVariants.{EmptyGroup, LookupsFile, OtherBus, RepeatedDefinition}
 use Rattle.language_meaning.specs.Buses.{bus_checked, buses_of, same_bus}

@@ -7,7 +7,6 @@
 //! become expressions, lookups of names become lookups, and tables become traces.
 #![tactic(auto)]
 
-mod air;
 mod bus;
 mod element_fault;
 mod expression;
@@ -15,6 +14,7 @@ mod files;
 mod lookups;
 mod message;
 mod name_fault;
+mod named_air;
 mod path;
 mod scope;
 mod shapes;
@@ -24,7 +24,6 @@ mod theorems;
 mod traces;
 mod value;
 
-pub use air::{NamedAir, NamedLookup, NamedPart, lookups_of};
 pub use bus::check_buses;
 pub use element_fault::{ElementFault, ElementRefusal, ElementWhy};
 pub use expression::expression_of;
@@ -32,6 +31,7 @@ pub use files::{NamedFile, content_of, files_of};
 pub use lookups::lookups_over;
 pub use message::{NamedMessage, named_message};
 pub use name_fault::{NameFault, NameRefusal, NameWhy};
+pub use named_air::{NamedAir, NamedLookup, NamedPart, lookups_of};
 pub use path::path_beside;
 pub use scope::{Defined, Scope, bytes_of, value_of};
 pub use shapes::{AirShape, read_shapes};

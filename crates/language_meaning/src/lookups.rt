@@ -10,9 +10,9 @@ ghost use Rattle.language_meaning.specs.Values.{meant_of};
 ghost use Rattle.language_meaning.specs.Columns.{IsColumnRefusal, IsFirstColumnRefusal, IsMade, IsNameRefusal, IsNamed, flag_or_one, flags_in, greatest_weight, outline_in, outlines_in, sum_of_weights, weight_in};
 ghost use Rattle.language_meaning.specs.Expressions.{tree_in};
 
-use crate::air::{NamedLookup, NamedPart};
 use crate::element_fault::{ElementFault, ElementRefusal, ElementWhy};
 use crate::expression::expression_of;
+use crate::named_air::{NamedLookup, NamedPart};
 use crate::scope::bytes_of;
 use crate::value::Value;
 use air_expressions::SymbolicExpression;

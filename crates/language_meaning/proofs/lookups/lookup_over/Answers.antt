@@ -1,7 +1,7 @@
 use Rattle.std.proofs.Common.{◌≡◌, ◌∙◌, List, arith, ap, map, option_map, refl, sym}
 use Rattle.language_meaning.specs.Lookups.{SentPart, column_of, sent_part_of}
 use Rattle.field.specs.Ring.{of_nat}
-use Rattle.language_meaning.specs.declared.air.NamedPart.{NamedPart}
+use Rattle.language_meaning.specs.declared.named_air.NamedPart.{NamedPart}
 use Rattle.language_meaning.specs.Columns.{flag_or_one}
 use Rattle.language_meaning.specs.Expressions.{tree_in}
 use Rattle.language_meaning.proofs.ColumnLaws.{flags_there, lengths_made, no_flags, outline_made}

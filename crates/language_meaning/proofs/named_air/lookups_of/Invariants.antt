@@ -4,7 +4,7 @@ use Rattle.language.specs.Items.{placed_of}
 use Rattle.language_meaning.specs.Lookups.{column_of, said_by_items}
 use Rattle.language_meaning.specs.Scopes.{defined_of, names_for}
 use Rattle.language_meaning.proofs.LookupLaws.{names_with, with_said}
-use Rattle.language_meaning.proofs.air.lookups_of.Given as goal
+use Rattle.language_meaning.proofs.named_air.lookups_of.Given as goal
 
 -- what is said so far and what the items say that are left is what all say
 abbrev pub invariant-loop-item : goal.invariant-loop-item

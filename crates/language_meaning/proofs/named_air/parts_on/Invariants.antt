@@ -4,7 +4,7 @@ use Rattle.language.specs.Items.{group_part_of as said_part}
 use Rattle.language_meaning.specs.Lookups.{sent_part_of, parts_on}
 use Rattle.language_meaning.specs.Scopes.{names_of}
 use Rattle.language_meaning.proofs.LookupLaws.{with_parts}
-use Rattle.language_meaning.proofs.air.parts_on.Given as goal
+use Rattle.language_meaning.proofs.named_air.parts_on.Given as goal
 
 -- the messages so far and those of the parts that are left are those of all
 abbrev pub invariant-loop-part : goal.invariant-loop-part
