@@ -5,7 +5,7 @@ ghost use Rattle.lookup.specs.Extraction.{IsFaultless, IsFirstLocalRefusal, IsLo
 ghost use Rattle.lookup_model.specs.Records.{AreRecords, IsRecordAt};
 ghost use Rattle.lookup_record.specs.Records.{exclusive_of, global_of, local_of};
 
-use crate::bus_widths::assert_uniform_tuple_width;
+use crate::tuple_widths::assert_uniform_tuple_width;
 use field::Field;
 use lookup_model::{Kind, Lookup, LookupError};
 use lookup_record::{SymbolicExclusiveInteraction, SymbolicInteraction, SymbolicLocalInteraction};

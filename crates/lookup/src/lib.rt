@@ -18,6 +18,7 @@ pub mod packing;
 pub mod protocol;
 pub mod symbolic;
 pub mod traits;
+mod tuple_widths;
 
 pub use bus_widths::check_bus_widths;
 pub use guards::{check_multiplicity_height_bound, height_law};

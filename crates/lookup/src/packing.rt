@@ -12,7 +12,7 @@ mod greedy;
 mod terminals;
 mod trials;
 
-pub use crate::bus_widths::assert_uniform_tuple_width;
 pub use crate::buses::by_bus;
+pub use crate::tuple_widths::assert_uniform_tuple_width;
 pub use greedy::{may_be_joined, pack_by_degree, pack_lookups};
 pub use terminals::messages_keep_terminals;

@@ -13,9 +13,9 @@ ghost use Rattle.lookup.specs.Packing.{Packs, additive_lookups, is_additive, num
 ghost use Rattle.lookup.specs.Trials.{AnswersTrial, IsBusTrial, IsMember, IsTrialAmong};
 ghost use Rattle.lookup.specs.internal.Fillings.{AreFilledBuses, IsFilled};
 
-use crate::bus_widths::assert_bus_widths;
 use crate::packing::degrees::{Asked, GadgetDegrees, TrialDegrees};
 use crate::packing::filling::{Bus, append_columns, open_bus, push_on};
+use crate::tuple_widths::assert_bus_widths;
 use field::Field;
 use indexmap::IndexMap;
 use lookup_model::{Kind, Lookup, LookupError};

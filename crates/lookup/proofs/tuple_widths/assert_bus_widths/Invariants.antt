@@ -3,7 +3,7 @@ use Rattle.std.specs.List.{AllByRecursion}
 use Rattle.lookup_model.specs.Outline.{fields_of}
 use Rattle.lookup.specs.Buses.{bus_names}
 use Rattle.lookup.specs.BusWidths.{HasOneWidth, bus_widths}
-use Rattle.lookup.proofs.bus_widths.assert_bus_widths.Given as goal
+use Rattle.lookup.proofs.tuple_widths.assert_bus_widths.Given as goal
 
 abbrev pub invariant-loop-index : goal.invariant-loop-index
 invariant-loop-index g l =

@@ -3,7 +3,7 @@ use Rattle.std.proofs.lemmas.List.Elements.{All-from_recursion}
 use Rattle.list_laws.proofs.Each.{all_of_map}
 use Rattle.list_laws.proofs.Images.{map_at}
 use Rattle.lookup.proofs.WidthLaws.{all_same, has_other}
-use Rattle.lookup.proofs.bus_widths.assert_uniform_tuple_width.Goals as goal
+use Rattle.lookup.proofs.tuple_widths.assert_uniform_tuple_width.Goals as goal
 
 pub returns-in-None : goal.returns-in-None
 returns-in-None g c =

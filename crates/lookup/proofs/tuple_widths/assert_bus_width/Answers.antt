@@ -1,5 +1,5 @@
 use Rattle.std.proofs.Common.{inr, refl}
-use Rattle.lookup.proofs.bus_widths.assert_bus_width.Goals as goal
+use Rattle.lookup.proofs.tuple_widths.assert_bus_width.Goals as goal
 
 pub returns-in_ok-context-in-Some : goal.returns-in_ok-context-in-Some
 returns-in_ok-context-in-Some g c = inr (record {

@@ -5,7 +5,7 @@ use Rattle.list_laws.proofs.Images.{map-map}
 use Rattle.lookup_model.specs.Outline.{fields_of}
 use Rattle.lookup.specs.BusWidths.{widths_of}
 use Rattle.lookup.proofs.WidthLaws.{all_same, found_in, has_other, is_other, passed_in}
-use Rattle.lookup.proofs.bus_widths.two_widths.Goals as goal
+use Rattle.lookup.proofs.tuple_widths.two_widths.Goals as goal
 
 pub returns-in-Some : goal.returns-in-Some
 returns-in-Some g c =

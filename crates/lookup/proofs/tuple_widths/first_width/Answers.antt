@@ -6,7 +6,7 @@ use Rattle.list_laws.proofs.Images.{map-map}
 use Rattle.lookup_model.specs.Outline.{fields_of}
 use Rattle.lookup.specs.BusWidths.{widths_of}
 use Rattle.lookup.proofs.WidthLaws.{first_in}
-use Rattle.lookup.proofs.bus_widths.first_width.Goals as goal
+use Rattle.lookup.proofs.tuple_widths.first_width.Goals as goal
 
 pub returns-in-Some : goal.returns-in-Some
 returns-in-Some g c =

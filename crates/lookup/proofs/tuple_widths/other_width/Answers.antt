@@ -1,6 +1,6 @@
 use Rattle.std.proofs.Common.{◌≡◌, ◌≢◌, Some, length, ap, sym, ◌∙◌, arith}
 use Rattle.lookup.proofs.WidthLaws.{not_here, other_here}
-use Rattle.lookup.proofs.bus_widths.other_width.Goals as goal
+use Rattle.lookup.proofs.tuple_widths.other_width.Goals as goal
 
 pub returns-then-len-width : goal.returns-then-len-width
 returns-then-len-width g c =

@@ -10,7 +10,7 @@ use Rattle.lookup.specs.BusWidths.{HasOneWidth, bus_widths, widths_of}
 use Rattle.lookup.specs.TupleWidths.{HasOtherWidth}
 use Rattle.lookup.proofs.PackLaws.{at_index, bus_here}
 use Rattle.lookup.proofs.WidthLaws.{all_buses}
-use Rattle.lookup.proofs.bus_widths.assert_bus_widths.Goals as goal
+use Rattle.lookup.proofs.tuple_widths.assert_bus_widths.Goals as goal
 
 pub returns-in_err-assert_bus_width : goal.returns-in_err-assert_bus_width
 returns-in_err-assert_bus_width g c =

@@ -5,7 +5,7 @@ use Rattle.list_laws.proofs.Images.{map-map}
 use Rattle.lookup_model.specs.Outline.{fields_of}
 use Rattle.lookup.specs.BusWidths.{widths_of}
 use Rattle.lookup.proofs.WidthLaws.{all_same, is_other, passed_in}
-use Rattle.lookup.proofs.bus_widths.have_one_width.Goals as goal
+use Rattle.lookup.proofs.tuple_widths.have_one_width.Goals as goal
 
 pub loop-lookup-preserved : goal.loop-lookup-preserved
 loop-lookup-preserved g c =
