@@ -4,11 +4,22 @@ import os
 import re
 
 from cases import cases_of
+from files import files_below, text_of
 
 TOP = os.path.dirname(os.path.dirname(os.path.realpath(__file__)))
 MACHINES = ("range", "bus", "exclusive")
-# The fields: how many numbers a challenge has, and what they are below.
-FIELDS = {"f7": (1, 7), "babybear4": (4, 2013265921), "koalabear4": (4, 2130706433), "goldilocks2": (2, 2**64 - 2**32 + 1)}
+COUNTS = {"one": 1, "two": 2, "four": 4}
+ENTRY = re.compile(r'name: "(\w+)".*challenge_form:\s+"(\w+) numbers?[^"]* below (\d+)"', re.DOTALL)
+
+
+def offered_fields():
+    """The fields: how many numbers a challenge has, and what they are below."""
+    files = sorted(files_below(f"{TOP}/crates/field_list/src"))
+    entries = filter(None, (ENTRY.search(text_of(it)) for it in files))
+    return {it[1]: (COUNTS[it[2]], int(it[3])) for it in entries}
+
+
+FIELDS = offered_fields()
 
 # The options of lookup-check, but for `--progress`, which tells steps first. For each command those that it has to be
 # given, and those that it may be.
@@ -47,7 +58,9 @@ def refusal(words):
 def files_asked(words):
     """The files that lookup-check reads first for these words. None of them where words may be refused before."""
     command, *rest = words or [""]
-    needed, optional = COMMANDS.get(command, (set(), set()))
+    if command not in COMMANDS:
+        return []
+    needed, optional = COMMANDS[command]
     given, files = {}, []
     while rest:
         word = rest.pop(0)

@@ -15,16 +15,17 @@ from lean import lean_kit
 from told import told
 
 TOP = os.path.dirname(os.path.dirname(os.path.realpath(__file__)))
-# The crate that calls the program's code once for each field, the file of these calls, and such a call: an arm of a match.
-CALLER, CALLS = "example_machines", "src/command.rt"
-CALL = re.compile(r'^ {8}"(\w+)" => (?:\{\n {12}answer_over::<.*\n {8}\}\n|answer_over::<.*\n)', re.MULTILINE)
+# The crate with the list of all fields, its file, and the list there. A field's name is its type's in small letters.
+LISTING, LIST = "field_list", "src/list.rt"
+OFFERED = re.compile(r"^pub type Offered = (.*);\n", re.MULTILINE)
 # How many seconds pass between two lines on what is being done.
 PAUSE = 5
 
 
-def fields_called():
-    """The fields for which the program's code is called, by name."""
-    return [call[1] for call in CALL.finditer(text_of(f"{TOP}/crates/{CALLER}/{CALLS}"))]
+def fields_listed():
+    """The fields for which the program's code is there, each name with its type."""
+    listed = OFFERED.search(text_of(f"{TOP}/crates/{LISTING}/{LIST}"))
+    return {it.lower(): it for it in re.findall(r"\w+", listed[1])} if listed else {}
 
 
 def compile_in(room, program, field):
@@ -34,12 +35,13 @@ def compile_in(room, program, field):
     os.chdir(f"{TOP}/crates/{program}")
     crate = rtlib.Crate(os.getcwd(), TOP, {})
     for below in crate.below():
-        if below.name == CALLER and field in fields_called():
-            below.folder = f"{room}/{CALLER}"
-            shutil.copytree(f"{TOP}/crates/{CALLER}/src", f"{below.folder}/src")
-            calls = CALL.sub(lambda call: call[0] if call[1] == field else "", text_of(f"{below.folder}/{CALLS}"))
-            with open(f"{below.folder}/{CALLS}", "w", encoding="utf-8") as file:
-                file.write(calls)
+        if below.name == LISTING and field in fields_listed():
+            below.folder = f"{room}/{LISTING}"
+            shutil.copytree(f"{TOP}/crates/{LISTING}/src", f"{below.folder}/src")
+            alone = f"pub type Offered = ({fields_listed()[field]}, ());\n"
+            text = OFFERED.sub(alone, text_of(f"{below.folder}/{LIST}"))
+            with open(f"{below.folder}/{LIST}", "w", encoding="utf-8") as file:
+                file.write(text)
     crate.try_unproved(["--steps", "1"], [])
 
 

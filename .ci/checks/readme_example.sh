@@ -1,8 +1,8 @@
 #!/usr/bin/env bash
 # Each block of the README's example is, apart from layout, in the test that runs it, and the one from Rust in the program
 # of docs/guide/RUST_AND_C.md, which .ci/checks/bindings.sh runs. The first run is the program's stored one, and the lines
-# of a report are those of a stored run. The code of docs/guide/RATTLE.md is that of the test and what it calls. Each run
-# of the programs that docs/guide/CHECK.md shows is a stored one.
+# of a report are those of a stored run. The code of docs/guide/RATTLE.md is that of the test and what it calls, and of the
+# list of fields. Each run of the programs that docs/guide/CHECK.md shows is a stored one.
 set -eu
 cd "$(dirname "${BASH_SOURCE[0]}")/../.."
 test=crates/batch_tests/src/tests/example.rt
@@ -43,11 +43,13 @@ echo "the README's example is what $test and the program of $program run"
 blocks_of "$rattle" "$room/rattle"
 grep -v '^use super::' "$test" >"$room/example.rt"
 helpers=crates/batch_tests/src/tests.rt
+fields=crates/field_list/src
 for block in "$room/rattle"/*; do
-  if ! stands_in "$block" "$room/example.rt" && ! stands_in "$block" "$helpers"; then
-    echo "a block of $rattle is in neither $test nor $helpers: $(head -n 1 "$block")" >&2
-    exit 1
-  fi
+  for file in "$room/example.rt" "$helpers" "$fields/koala_bear.rt" "$fields/list.rt"; do
+    if stands_in "$block" "$file"; then continue 2; fi
+  done
+  echo "a block of $rattle is in none of $test, $helpers and $fields: $(head -n 1 "$block")" >&2
+  exit 1
 done
 code=$(cat "$room/rattle"/* | tr -d ' \n')
 for part in 'ghostevaluates=' 'ghostkeeps_layout=' 'ghostnum_public_values=' '#[test]' 'assert!(rt;'; do
@@ -56,7 +58,7 @@ for part in 'ghostevaluates=' 'ghostkeeps_layout=' 'ghostnum_public_values=' '#[
     *) echo "$rattle has no $part" >&2 && exit 1 ;;
   esac
 done
-echo "the code of $rattle is what $test runs"
+echo "the code of $rattle is what $test runs, and that of a field"
 run=crates/lookup_run
 rows=$(awk '{ printf "%s\\n", $0 }' "$run/stdin")
 words=$(tr '\n' ' ' <"$run/args")

@@ -17,15 +17,16 @@ use crate::instances::{air_over, check_traces, make_batch};
 use crate::reach::{Reach, reaches_of};
 use crate::trace::BatchTrace;
 use crate::widths::{check_airs, widest_tuple};
-use checker::{
-    BatchInstance, SoundnessCount, Witness, check_in_columns, counted_soundness, generate_batch,
-    linear_soundness, packing_keeps_batch, results_join, soundness_count,
+use checker_batches::{
+    counted_soundness, generate_batch, linear_soundness, packing_keeps_batch, soundness_count,
 };
+use checker_witness::{check_in_columns, results_join};
 use field::{ExtensionField, Field, Over};
 use lookup::{
     Challenges, LogUpGadget, LookupError, LookupProtocol, Lookups, check_multiplicity_height_bound,
     height_law,
 };
+use lookup_model::{BatchInstance, SoundnessCount, Witness};
 use std::alloc::{AllocError, Global};
 
 /// The lookups of the AIRs of a batch with their ids, and the heights of the traces.

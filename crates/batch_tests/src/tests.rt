@@ -8,8 +8,7 @@ mod proving;
 mod refusals;
 
 use air::{BaseEntry, BaseLeaf, Expression, SymbolicExpression, SymbolicVariable};
-use batch::{BatchError, BatchPlan, BatchTrace};
-use checker::Witness;
+use batch::{BatchError, BatchPlan, BatchTrace, Witness};
 use field::{F7, Field, PrimeCharacteristicRing};
 use lookup::{Kind, Lookup, LookupTerminal, Lookups};
 use matrix::RowMajorMatrix;

@@ -62,8 +62,8 @@ pub enum Fault {
     Ragged {
         air: usize,
     },
-    /// The lookups do not fit the traces.
-    #[error("air {air}: the lookups do not fit the traces")]
+    /// The lookups do not fit the traces, or have no row to read.
+    #[error("air {air}: the lookups do not fit the traces, or have no row to read")]
     Misfit {
         air: usize,
     },

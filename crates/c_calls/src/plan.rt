@@ -61,7 +61,7 @@ fn write_ids(numbers: &mut [usize], ids: &[Vec<usize>])
 /// Whether each AIR with lookups has a row.
 ///
 /// Refuses the first that has none: over no rows no constraint binds its terminal.
-fn check_rows(airs: &[Air<'_>]) -> Result<(), Fault>
+fn check_airs_have_rows(airs: &[Air<'_>]) -> Result<(), Fault>
     ensures { MatchResult result (λ _. All HasRows airs.now) (IsFirstRowless airs.now) }
 {
     for (index, air) in airs.iter().enumerate() {
@@ -83,7 +83,7 @@ fn plan_into_room<const P: u32, K: QuarticParameters<P>>(
         (IsPlanCallRefusal P airs.now room) }
 {
     let plan = plan_of::<P, K>(alloc, airs)?;
-    check_rows(airs)?;
+    check_airs_have_rows(airs)?;
     let Some(expected) = id_count(plan.ids()) else {
         return Err(Fault::Memory);
     };

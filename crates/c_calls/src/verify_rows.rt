@@ -74,7 +74,8 @@ pub(crate) fn answer_verify_rows<const P: u32, K: QuarticParameters<P>>(
 ///
 /// `around` and the witness have the rows around the range alone, as for `volgwain_generate_rows`; the
 /// terminal is that of the whole trace. The ids and the sizes are as for `volgwain_generate_by_ids`. That the
-/// terminals of a batch sum to zero is for the caller to see to.
+/// terminals of a batch sum to zero is for the caller to see to. An AIR with lookups needs a row: over none nothing
+/// binds its terminal.
 ///
 /// Answers 0 if it is, and otherwise the code of the first refusal, which names its row in the whole trace.
 #[unsafe(no_mangle)]

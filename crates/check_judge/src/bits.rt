@@ -1,9 +1,8 @@
 //! The bits that are left.
 ghost use Rattle.std.specs.Prelude.{◌≡◌, ◌⊎◌, ◌↔◌, ◌+◌, ◌-◌, ◌*◌, ◌^◌, ◌<◌, ◌≤◌, IfSome, IsNone, IsTrue};
-ghost use Rattle.check_judge.specs.Bits.{MeetsTarget, alphas_of, challenges_of};
+ghost use Rattle.check_judge.specs.Bits.{MeetsTarget, alphas_of};
 
-use crate::fields::challenges;
-use check_words::{BitsRequest, FieldName};
+use check_words::BitsRequest;
 
 /// At how few challenges a batch that does not balance is accepted.
 #[derive(Clone, Copy)]
@@ -17,9 +16,9 @@ pub struct Deceiving {
 impl Deceiving {
     /// Those of so many messages of which so many are unbalanced, over tuples of at most `width`
     /// values.
-    pub fn of_request(request: BitsRequest) -> Deceiving
-        ensures betas { result.betas ≡ request.width * (request.unbalanced - 1) }
-        ensures alphas { result.alphas ≡ alphas_of request.messages request.unbalanced }
+    pub fn of_request(request: BitsRequest<'_>) -> Deceiving
+        ensures betas { result.betas ≡ request.entry.width * (request.entry.unbalanced - 1) }
+        ensures alphas { result.alphas ≡ alphas_of request.entry.messages request.entry.unbalanced }
     {
         let others = request.unbalanced.saturating_sub(1);
         Deceiving {
@@ -32,21 +31,21 @@ impl Deceiving {
         }
     }
 
-    /// How many bits are left in this field, 0 if all challenges deceive; none if there is nothing to
-    /// be wrong about.
-    pub fn bits_in(self, field: FieldName) -> Option<u32> {
+    /// How many bits are left among so many challenges, 0 if all of them deceive; none if there is
+    /// nothing to be wrong about.
+    pub fn bits_among(self, challenges: u128) -> Option<u32> {
         let alphas = self.alphas?;
-        Some(bits_of(challenges(field), self.betas.saturating_add(alphas)).unwrap_or(0))
+        Some(bits_of(challenges, self.betas.saturating_add(alphas)).unwrap_or(0))
     }
 
-    /// Whether as many bits are left in this field as are wanted.
-    pub fn meets(self, field: FieldName, target: Option<u64>) -> bool
-        ensures { IsTrue result ↔ MeetsTarget (challenges_of field) target self.betas self.alphas }
+    /// Whether as many bits are left among so many challenges as are wanted.
+    pub fn meets(self, challenges: u128, target: Option<u64>) -> bool
+        ensures { IsTrue result ↔ MeetsTarget challenges target self.betas self.alphas }
     {
         let (Some(wanted), Some(alphas)) = (target, self.alphas) else {
             return true;
         };
-        leaves(challenges(field), self.betas.saturating_add(alphas), wanted)
+        leaves(challenges, self.betas.saturating_add(alphas), wanted)
     }
 }
 

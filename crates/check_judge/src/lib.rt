@@ -9,7 +9,6 @@
 mod airs;
 mod bits;
 mod fault;
-mod fields;
 mod judgement;
 mod plan;
 mod report;
@@ -19,7 +18,6 @@ mod sizes;
 pub use airs::{AirOver, MAX_NODES, airs_named, airs_of, sets_over};
 pub use bits::{Deceiving, bits_of};
 pub use fault::JudgeFault;
-pub use fields::TableField;
 pub use judgement::{PlannedAirs, judge, planned_airs, traces_of};
 pub use plan::judge_plan;
 pub use report::{AirReport, PlanReport, Report};

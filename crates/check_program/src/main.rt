@@ -8,6 +8,7 @@ mod steps;
 use check_report::RunRefusal;
 use check_run::{Inputs, refuse, run};
 use check_words::{Asked, BatchRequest, Task, WordsRefusal, asked};
+use field_list::{FieldList, Offered};
 use files::{ReadFiles, read_files};
 use std::process::ExitCode;
 use std::{env, fs, io};
@@ -26,11 +27,15 @@ fn main(rt: HostRuntime) -> ExitCode {
     }
 }
 
-/// Runs over the files that the words name. Words that ask for nothing are told by `run`.
+/// Runs over the files that the words name.
 fn over_files(rt: &HostRuntime, words: &[String]) -> ExitCode {
-    let request = match asked(rt.alloc(), words) {
-        Ok(Asked::Batch(request)) => Some(request),
-        Err(WordsRefusal::Memory) => return refuse(RunRefusal::Memory, &mut rt.stderr()),
+    let mut names = Vec::new(rt.alloc());
+    if Offered::push_names(&mut names).is_err() {
+        return refuse(RunRefusal::Memory, &mut rt.stderr());
+    }
+    let said = asked(rt.alloc(), names.as_slice(), words);
+    let request = match &said {
+        Ok(Asked::Batch(request)) => Some(*request),
         _ => None,
     };
     let steps = Steps::of(rt, request);
@@ -50,14 +55,8 @@ fn over_files(rt: &HostRuntime, words: &[String]) -> ExitCode {
     };
     steps.tell(rt, "answering");
     let status = match file_out(request) {
-        Some(file) => run_to_file(rt, words, inputs, file),
-        None => run(
-            rt.alloc(),
-            words,
-            inputs,
-            &mut rt.stdout(),
-            &mut rt.stderr(),
-        ),
+        Some(file) => run_to_file(rt, said, inputs, file),
+        None => run::<Offered, _, _>(rt.alloc(), said, inputs, &mut rt.stdout(), &mut rt.stderr()),
     };
     steps.tell(rt, "done");
     status
@@ -72,10 +71,15 @@ fn file_out<'a>(request: Option<BatchRequest<'a>>) -> Option<&'a str> {
 }
 
 /// Runs, and writes the answer to a file. A run that is refused leaves the file as it is.
-fn run_to_file(rt: &HostRuntime, words: &[String], inputs: Inputs<'_>, file: &str) -> ExitCode {
+fn run_to_file(
+    rt: &HostRuntime,
+    said: Result<Asked<'_>, WordsRefusal>,
+    inputs: Inputs<'_>,
+    file: &str,
+) -> ExitCode {
     let alloc = rt.alloc();
     let mut answer = Vec::new(alloc);
-    let status = run(alloc, words, inputs, &mut answer, &mut rt.stderr());
+    let status = run::<Offered, _, _>(alloc, said, inputs, &mut answer, &mut rt.stderr());
     if status == ExitCode::from(2) || fs::write(rt, file, answer.as_slice()).is_ok() {
         return status;
     }

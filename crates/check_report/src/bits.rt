@@ -1,29 +1,21 @@
 //! The bits that are left, as text.
-use crate::fields::challenge_field;
 use crate::page::{Page, head, number_cell, word_cell};
 use check_judge::Deceiving;
-use check_words::{BitsRequest, FieldName};
+use check_words::BitsRequest;
+use field_list::FieldEntry;
 use std::alloc::AllocError;
-
-/// All fields, in the order in which they are told.
-pub const FIELDS: [FieldName; 4] = [
-    FieldName::F7,
-    FieldName::BabyBear4,
-    FieldName::KoalaBear4,
-    FieldName::Goldilocks2,
-];
 
 /// Appends how many bits are left, if there is something to be wrong about.
 pub(crate) fn push_bits(
     page: &mut Page,
-    field: FieldName,
+    field: FieldEntry,
     deceiving: Deceiving,
 ) -> Result<(), AllocError> {
-    let Some(bits) = deceiving.bits_in(field) else {
+    let Some(bits) = deceiving.bits_among(field.challenges) else {
         return Ok(());
     };
     page.word("    challenges in ")?;
-    page.word(challenge_field(field))?;
+    page.word(field.title)?;
     page.word(": ")?;
     page.grouped(u128::from(bits))?;
     page.word(" bits\n")
@@ -43,8 +35,12 @@ pub fn push_target(page: &mut Page, target: Option<u64>, is_met: bool) -> Result
     page.word(" bits are wanted\n")
 }
 
-/// Appends how many bits each field leaves to so many messages.
-pub fn push_bits_table(page: &mut Page, request: BitsRequest) -> Result<(), AllocError> {
+/// Appends how many bits each of these fields leaves to so many messages.
+pub fn push_bits_table(
+    page: &mut Page,
+    fields: &[FieldEntry],
+    request: BitsRequest<'_>,
+) -> Result<(), AllocError> {
     page.word("n = ")?;
     page.grouped(u128::from(request.messages))?;
     page.word(" distinct messages, k = ")?;
@@ -64,10 +60,10 @@ pub fn push_bits_table(page: &mut Page, request: BitsRequest) -> Result<(), Allo
     let alloc = page.alloc();
     let mut lines = Vec::new(alloc);
     lines.push(head(alloc, &["challenges in", "bits"])?)?;
-    for field in FIELDS {
+    for field in fields {
         let mut cells = Vec::new(alloc);
-        cells.push(word_cell(alloc, challenge_field(field))?)?;
-        let bits = deceiving.bits_in(field).unwrap_or(0);
+        cells.push(word_cell(alloc, field.title)?)?;
+        let bits = deceiving.bits_among(field.challenges).unwrap_or(0);
         cells.push(number_cell(alloc, u128::from(bits))?)?;
         lines.push(cells)?;
     }

@@ -7,7 +7,6 @@
 
 mod bits;
 mod columns;
-mod fields;
 mod given;
 mod hint;
 mod mark;
@@ -21,7 +20,7 @@ mod told;
 mod unbalanced;
 mod words;
 
-pub use bits::{FIELDS, push_bits_table, push_target};
+pub use bits::{push_bits_table, push_target};
 pub use given::Given;
 pub use page::Page;
 pub use refusal::RunRefusal;

@@ -3,7 +3,6 @@ ghost use Rattle.std.specs.Prelude.{◌≡◌, IfOk};
 ghost use Rattle.check_report.specs.Told.{file_line, refusal_text};
 ghost use Rattle.check_report.specs.declared.refusal.RunRefusal.TheVariants.{Memory};
 
-use crate::fields::{challenge_field, coefficients};
 use crate::given::Given;
 use crate::hint::{Hint, hint_of, hint_of_text};
 use crate::mark::{name_text, push_mark, push_place, push_why};
@@ -11,7 +10,7 @@ use crate::page::Page;
 use crate::words::{air_at, lookup_at, trace_file};
 use batch::BatchError;
 use check_judge::JudgeFault;
-use check_words::FieldName;
+use field_list::FieldEntry;
 use language::{BatchText, Fault, Span, place_of};
 use language_meaning::{ElementWhy, TableRefusal, TableWhy, bytes_of, content_of, path_beside};
 use lookup::LookupError;
@@ -62,7 +61,7 @@ impl RunRefusal {
     /// A word that writes no challenge, which is the value of an option.
     pub fn of_challenge(
         alloc: Global,
-        field: FieldName,
+        field: FieldEntry,
         option: &str,
         word: &str,
     ) -> Result<RunRefusal, AllocError> {
@@ -70,9 +69,9 @@ impl RunRefusal {
         page.word("error: '--")?;
         page.word(option)?;
         page.word("' is no element of ")?;
-        page.word(challenge_field(field))?;
+        page.word(field.title)?;
         page.word(" (")?;
-        page.word(coefficients(field))?;
+        page.word(field.challenge_form)?;
         page.word("): ")?;
         page.shown(word.as_bytes())?;
         page.word("\n")?;

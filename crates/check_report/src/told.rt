@@ -1,7 +1,7 @@
 //! What the sections of a report are told with.
 use crate::page::Page;
 use crate::words::first_word;
-use check_words::FieldName;
+use field_list::FieldEntry;
 use language::{AirText, BatchText, ItemText};
 use language_meaning::bytes_of;
 use lookup::debug_util::GroupName;
@@ -15,7 +15,7 @@ pub struct Told<'a> {
     pub batch: &'a BatchText,
     /// Its AIRs, in their order.
     pub airs: &'a [&'a AirText],
-    pub field: FieldName,
+    pub field: FieldEntry,
     /// How many unbalanced tuples of a bus are told, and how many places of a tuple.
     pub limit: usize,
     /// The degree within which columns are packed.

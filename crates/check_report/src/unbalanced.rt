@@ -2,7 +2,7 @@
 use crate::page::{Page, characters};
 use crate::told::{Told, group_cell, push_lookup};
 use crate::words::{bus_named, lookup_at, trace_file};
-use check_judge::TableField;
+use field_list::TableField;
 use language::{Span, place_of};
 use language_meaning::bytes_of;
 use lookup::debug_util::{BusGroup, GroupName, Location, SignedField, UnbalancedTuple};

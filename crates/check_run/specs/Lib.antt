@@ -1,4 +1,4 @@
 pub mod RunRefusals
 pub mod Runs
-pub mod Written
+pub mod Told
 pub mod internal

@@ -1,12 +1,8 @@
 -- Why a run is refused: a step that fails.
-use Rattle.std.specs.Prelude.{◌≡◌, ◌≢◌, ◌⊎◌, ℕ, Bool, true, List, [], ◌∷◌, Result, Err, Ok}
-use Rattle.std.specs.declared.alloc.Global.{Global}
-use Rattle.std.specs.declared.string.String.{String}
-use Rattle.field_monty.specs.Quartic.{Quartic}
-use Rattle.field.specs.Residue.{Residue}
+use Rattle.std.specs.Prelude.{◌≡◌, ◌≢◌, ◌⊎◌, ℕ, All, Bool, true, List, [], ◌∷◌, Result, Err, Ok}
 use Rattle.field.specs.Ring.{of_nat}
+use Rattle.field_list.specs.Offers.{HoldsOf, Offers, names_of}
 use Rattle.field_words.specs.Fields.{Fields}
-use Rattle.field_goldilocks.specs.Quadratic.{Quadratic}
 use Rattle.language.specs.Batches.{Section, batch_at}
 use Rattle.language.specs.declared.fault.Fault.{Fault}
 use Rattle.language_meaning.specs.Files.{File}
@@ -14,14 +10,16 @@ use Rattle.language_meaning.specs.Shapes.{all_shapes}
 use Rattle.language_meaning.specs.Tables.{all_tables}
 use Rattle.language_meaning.specs.declared.table_fault.TableRefusal.{TableRefusal}
 use Rattle.language_meaning.specs.Lookups.{Said}
-use Rattle.check_words.specs.Line.{HasFieldNames, NameList, line_app}
+use Rattle.std.specs.declared.alloc.Global.{Global}
+use Rattle.std.specs.declared.string.String.{String}
+use Rattle.check_report.specs.declared.refusal.RunRefusal.{RunRefusal}
+use Rattle.check_report.specs.declared.refusal.RunRefusal.TheVariants.{Memory}
+use Rattle.check_words.specs.Line.{NameList, line_app}
 use Rattle.check_words.specs.Words.{IsAsked, IsRefused}
 use Rattle.check_words.specs.declared.refusal.WordsRefusal.TheVariants as of_words
 use Rattle.check_words.specs.declared.request.Asked.{Asked}
 use Rattle.check_words.specs.declared.request.Asked.TheVariants.{Batch, Bits}
 use Rattle.check_words.specs.declared.request.ChallengeWords.{ChallengeWords}
-use Rattle.check_words.specs.declared.request.FieldName.{FieldName}
-use Rattle.check_words.specs.declared.request.FieldName.TheVariants.{F7, BabyBear4, KoalaBear4, Goldilocks2}
 use Rattle.check_words.specs.declared.request.Task.{Task}
 use Rattle.check_words.specs.declared.request.Task.TheVariants.{Accept, Any, Check, Pack, Plan, Show, Witness}
 use Rattle.batch.specs.Grids.{CountsPlanGrid}
@@ -33,8 +31,6 @@ use Rattle.check_run.specs.Runs.{IsReadRun}
 use Rattle.check_judge.specs.Said.{SayOver, airs_of}
 use Rattle.check_judge.specs.declared.fault.JudgeFault.{JudgeFault}
 use Rattle.check_judge.specs.declared.fault.JudgeFault.TheVariants as judge
-use Rattle.check_report.specs.declared.refusal.RunRefusal.{RunRefusal}
-use Rattle.check_report.specs.declared.refusal.RunRefusal.TheVariants.{Memory}
 
 -- The text cannot be read, or else the tables or sizes of its AIRs cannot, or else a later step is refused, for another
 -- cause than want of memory.
@@ -92,28 +88,22 @@ module _ {F K : Type 0} (fields : Fields F K) (text : List ℕ) (files : List Fi
   IsTaskRefused (Accept words file) = Unit {0}
   IsTaskRefused (Any words) = IsAnyRefused words
 
-module _
-    (S : Fields (Residue 7) (Residue 7))
-    (B : Fields (Residue 2013265921) (Quartic (Residue 2013265921)))
-    (K : Fields (Residue 2130706433) (Quartic (Residue 2130706433)))
-    (G : Fields (Residue 18446744069414584321) (Quadratic (Residue 18446744069414584321)))
-  where
-    -- why a task over the field with this name is refused
-    abbrev pub IsRefusedIn : FieldName → Task → List ℕ → List File → Type 0
-    IsRefusedIn F7 task text files = IsTaskRefused S text files task
-    IsRefusedIn BabyBear4 task text files = IsTaskRefused B text files task
-    IsRefusedIn KoalaBear4 task text files = IsTaskRefused K text files task
-    IsRefusedIn Goldilocks2 task text files = IsTaskRefused G text files task
+module _ (offers : Offers) where
+  -- The refusal of a task over the field with this name: memory ran out, or the task is refused; or no field of the list has
+  -- the name.
+  abbrev pub IsRefusalIn : List ℕ → Task → List ℕ → List File → RunRefusal → Type 0
+  IsRefusalIn name task text files e =
+      All (λ other. other ≢ name) (names_of offers)
+      ⊎ HoldsOf name (λ F K o. (e ≡ Memory) ⊎ IsTaskRefused o.fields text files task) offers
 
-    -- why what is asked is refused; `bits` is not
-    abbrev pub IsAskedRefused : Asked → List ℕ → List File → Type 0
-    IsAskedRefused (Batch request) text files = IsRefusedIn request.field request.task text files
-    IsAskedRefused (Bits request) text files = ⊥
+  -- the refusal of what is asked: that of a task of a batch, and of `bits` that memory ran out or no field has the name
+  abbrev pub IsAskedRefusal : Asked → List ℕ → List File → RunRefusal → Type 0
+  IsAskedRefusal (Batch request) text files e = IsRefusalIn request.field.now request.task text files e
+  IsAskedRefusal (Bits request) text files e = (e ≡ Memory) ⊎ All (λ other. other ≢ request.field.now) (names_of offers)
 
-    -- the refusal of the words of a command line: memory ran out, or the words are refused, or what they ask for is
-    abbrev pub IsRunRefusal : List (List ℕ) → List ℕ → List File → RunRefusal → Type 0
-    IsRunRefusal words text files e =
-        (e ≡ Memory)
-        ⊎ ((names : NameList) × HasFieldNames names
-        × (((told : String Global) × IsRefused (line_app names) words (of_words.Told told))
-        ⊎ ((asked : Asked) × IsAsked (line_app names) words asked × IsAskedRefused asked text files)))
+  -- the refusal of the words of a command line: memory ran out, or the words are refused, or what they ask for is
+  abbrev pub IsRunRefusal : NameList → List (List ℕ) → List ℕ → List File → RunRefusal → Type 0
+  IsRunRefusal names words text files e =
+      (e ≡ Memory)
+      ⊎ (((told : String Global) × IsRefused (line_app names) words (of_words.Told told))
+      ⊎ ((asked : Asked) × IsAsked (line_app names) words asked × IsAskedRefusal asked text files e))

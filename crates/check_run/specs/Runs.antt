@@ -1,14 +1,9 @@
 -- What a run answers, writes and ends with.
-use Rattle.std.specs.Prelude.{◌≡◌, ◌⊎◌, ◌↔◌, ◌++◌, ◌-◌, ◌*◌, ℕ, Bool, true, false, IsTrue, List, Option, None, Result, Ok, MatchResult, codes, cond, map, max}
-use Rattle.std.specs.Io.KnownBytes.{Appends}
+use Rattle.std.specs.Prelude.{◌≡◌, ◌⊎◌, ◌↔◌, ◌++◌, ◌-◌, ◌*◌, ℕ, Bool, true, false, IsTrue, List, Option, None, Some, Result, Ok, MatchResult, codes, map, max}
 use Rattle.std.specs.List.{AllZip}
-use Rattle.std.specs.declared.alloc.Global.{Global}
-use Rattle.std.specs.declared.string.String.{String}
-use Rattle.field_monty.specs.Quartic.{Quartic}
-use Rattle.field.specs.Residue.{Residue}
 use Rattle.field.specs.Ring.{of_nat}
+use Rattle.field_list.specs.Offers.{HoldsOf, Offers, challenges_in}
 use Rattle.field_words.specs.Fields.{Fields}
-use Rattle.field_goldilocks.specs.Quadratic.{Quadratic}
 use Rattle.lookup_debug.specs.Contributions.{Traced}
 use Rattle.lookup_debug.specs.Mismatch.{AllBalance}
 use Rattle.language.specs.Batches.{Section, batch_at}
@@ -21,14 +16,14 @@ use Rattle.lookup_model.specs.declared.types.Lookup.{Lookup}
 use Rattle.lookup_model.specs.declared.witness.Witness.{Witness}
 use Rattle.language_meaning.specs.Buses.{distinct_buses}
 use Rattle.language_meaning.specs.Lookups.{Said}
-use Rattle.check_words.specs.Line.{HasFieldNames, NameList, line_app}
+use Rattle.std.specs.declared.alloc.Global.{Global}
+use Rattle.std.specs.declared.string.String.{String}
+use Rattle.check_words.specs.Line.{NameList, line_app}
 use Rattle.check_words.specs.Words.{IsAsked, IsRefused}
 use Rattle.check_words.specs.declared.refusal.WordsRefusal.TheVariants.{Help}
 use Rattle.check_words.specs.declared.request.Asked.{Asked}
 use Rattle.check_words.specs.declared.request.Asked.TheVariants.{Batch, Bits}
 use Rattle.check_words.specs.declared.request.ChallengeWords.{ChallengeWords}
-use Rattle.check_words.specs.declared.request.FieldName.{FieldName}
-use Rattle.check_words.specs.declared.request.FieldName.TheVariants.{F7, BabyBear4, KoalaBear4, Goldilocks2}
 use Rattle.check_words.specs.declared.request.Task.{Task}
 use Rattle.check_words.specs.declared.request.Task.TheVariants.{Accept, Any, Check, Pack, Plan, Show, Witness as OfWitness}
 use Rattle.batch.specs.Plans.{FitPlan, Plan as PlanOf}
@@ -36,11 +31,12 @@ use Rattle.batch.specs.Runs.{Proves, ProvesSatisfied, Run, run_of}
 use Rattle.batch.specs.Traces.{view_of}
 use Rattle.batch.specs.declared.trace.BatchTrace.{BatchTrace}
 use Rattle.language_witness.specs.Lines.{IsTextOf, witness_lines}
-use Rattle.check_judge.specs.Bits.{MeetsTarget, alphas_of, challenges_of}
+use Rattle.check_judge.specs.Bits.{MeetsTarget, alphas_of}
 use Rattle.check_judge.specs.Found.{IsFound, IsPlanFound, IsPlanOf, sized_of, sized_over}
 use Rattle.check_judge.specs.Said.{AreLookupsOf, AreSaid, SayOver, airs_of}
 use Rattle.check_report.specs.Told.{refusal_text, verdict_line}
-use Rattle.check_run.specs.Written.{AppendsFront, unwritten_line}
+use Rattle.program_ending.specs.Endings.{EndsAnswered, AnswerParts}
+use Rattle.program_ending.specs.Written.{AppendsFront}
 use Rattle.check_run.specs.declared.answer.Answer.{Answer}
 use Rattle.check_report.specs.declared.refusal.RunRefusal.{RunRefusal}
 use Rattle.check_judge.specs.declared.report.PlanReport.{PlanReport}
@@ -55,6 +51,10 @@ IsAcceptanceTold false text = (why : List ℕ) × (text ≡ codes "NOT ACCEPTED:
 abbrev pub decision_line : Bool → List ℕ
 decision_line true = codes "SOME WITNESS: at these challenges a witness is accepted\n"
 decision_line false = codes "NO WITNESS: at these challenges none is accepted\n"
+
+-- the line that tells that an answer cannot be written
+abbrev pub unwritten_line : List ℕ
+unwritten_line = codes "error: the answer cannot be written\n"
 
 -- the text ends with this line, unless it is JSON
 abbrev pub EndsWith : Bool → List ℕ → List ℕ → Type 0
@@ -154,7 +154,8 @@ module _ {F K : Type 0} (fields : Fields F K) (text : List ℕ) (files : List Fi
     pub yes : IsTrue answer.yes ↔ IsAccepting run.fields run.batch run.plan.width run.beta run.alpha
     pub told : answer.text.items ≡ decision_line answer.yes
 
-  -- the answer to a task over a field with so many challenges
+  -- The answer to a task over a field with so many challenges. `number` is the number that an element of a trace is told
+  -- as.
   abbrev pub AnswersOver : (F → ℕ) → ℕ → Task → List ℕ → Answer → Type 0
   AnswersOver number challenges (Check limit degree json) witness answer = IsVerdict number limit degree json answer
   AnswersOver number challenges (Plan degree json target) witness answer = IsPlanned degree challenges target answer
@@ -164,32 +165,28 @@ module _ {F K : Type 0} (fields : Fields F K) (text : List ℕ) (files : List Fi
   AnswersOver number challenges (Accept words file) witness answer = IsAcceptance words witness answer
   AnswersOver number challenges (Any words) witness answer = IsDecision words answer
 
-module _
-    (S : Fields (Residue 7) (Residue 7))
-    (B : Fields (Residue 2013265921) (Quartic (Residue 2013265921)))
-    (K : Fields (Residue 2130706433) (Quartic (Residue 2130706433)))
-    (G : Fields (Residue 18446744069414584321) (Quadratic (Residue 18446744069414584321)))
-  where
-    -- the answer to a task over the field with this name
-    abbrev pub AnswersIn : FieldName → Task → List ℕ → List File → List ℕ → Answer → Type 0
-    AnswersIn F7 task text files = AnswersOver S text files (λ x. x.value) (challenges_of F7) task
-    AnswersIn BabyBear4 task text files = AnswersOver B text files (λ x. x.value) (challenges_of BabyBear4) task
-    AnswersIn KoalaBear4 task text files = AnswersOver K text files (λ x. x.value) (challenges_of KoalaBear4) task
-    AnswersIn Goldilocks2 task text files = AnswersOver G text files (λ x. x.value) (challenges_of Goldilocks2) task
+module _ (offers : Offers) where
+  -- the answer to a task over the field with this name
+  abbrev pub AnswersIn : List ℕ → Task → List ℕ → List File → List ℕ → Answer → Type 0
+  AnswersIn name task text files witness answer = HoldsOf name (λ F K o. AnswersOver o.fields text files o.number (challenges_in o) task witness answer) offers
 
-    -- The answer to what is asked: to a task of a batch that of its field, and to `bits` yes if as many bits are left in
-    -- its field as are wanted.
-    abbrev pub AnswersTo : Asked → List ℕ → List File → List ℕ → Answer → Type 0
-    AnswersTo (Batch request) text files witness answer = AnswersIn request.field request.task text files witness answer
-    AnswersTo (Bits request) text files witness answer = IsTrue answer.yes ↔ MeetsTarget (challenges_of request.field) request.target (request.width * (request.unbalanced - 1)) (alphas_of request.messages request.unbalanced)
+  -- The answer to what is asked: to a task of a batch that of its field, and to `bits` yes if as many bits are left in
+  -- its field as are wanted.
+  abbrev pub AnswersTo : Asked → List ℕ → List File → List ℕ → Answer → Type 0
+  AnswersTo (Batch request) text files witness answer = AnswersIn request.field.now request.task text files witness answer
+  AnswersTo (Bits request) text files witness answer = HoldsOf request.field.now (λ F K o.
+      IsTrue answer.yes ↔ MeetsTarget (challenges_in o) request.target (request.width * (request.unbalanced - 1)) (alphas_of request.messages request.unbalanced)) offers
 
-    -- The answer to the words of a command line: to what they ask for; or, where they ask for help, one that is yes. Its
-    -- text is left to tests.
-    abbrev pub IsAnswer : List (List ℕ) → List ℕ → List File → List ℕ → Answer → Type 0
-    IsAnswer words text files witness answer =
-        (names : NameList) × HasFieldNames names
-        × (((asked : Asked) × IsAsked (line_app names) words asked × AnswersTo asked text files witness answer)
-        ⊎ ((help : String Global) × IsRefused (line_app names) words (Help help) × (answer.yes ≡ true)))
+  -- The answer to the words of a command line: to what they ask for; or, where they ask for help, one that is yes. Its
+  -- text is left to tests.
+  abbrev pub IsAnswer : NameList → List (List ℕ) → List ℕ → List File → List ℕ → Answer → Type 0
+  IsAnswer names words text files witness answer =
+      ((asked : Asked) × IsAsked (line_app names) words asked × AnswersTo asked text files witness answer)
+      ⊎ ((help : String Global) × IsRefused (line_app names) words (Help help) × (answer.yes ≡ true))
+
+-- the parts of an answer, as `write_answer` takes them
+abbrev pub parts_of : Answer → AnswerParts
+parts_of answer = record { text = answer.text.items; note = None; yes = answer.yes; unwritten = Some unwritten_line }
 
 -- The status of a run, and what becomes of its outputs, of those whose bytes are known. An answer is written whole, with
 -- status 0 if it is yes and 1 if not, and nothing to the errors; or the status is 2, a front of the answer is written, and
@@ -197,9 +194,5 @@ module _
 -- was, and a front of its text is written to the errors. A front may be empty or all of a text.
 abbrev pub EndsWithAnswer : {W E : Type 0} → (W → Option (List ℕ)) → (E → Option (List ℕ)) → Result Answer RunRefusal → ℕ → W → W → E → E → Type 0
 EndsWithAnswer contents contents_of_errors answer status output output_after errors errors_after = MatchResult answer
-    (λ a.
-    ((status ≡ cond a.yes 0 1) × Appends (contents output) (contents output_after) a.text.items × (errors_after ≡ errors))
-    ⊎ ((status ≡ 2)
-    × AppendsFront (contents output) (contents output_after) a.text.items
-    × AppendsFront (contents_of_errors errors) (contents_of_errors errors_after) unwritten_line))
+    (λ a. EndsAnswered contents contents_of_errors (parts_of a) output output_after errors errors_after status)
     (λ e. (status ≡ 2) × (output_after ≡ output) × AppendsFront (contents_of_errors errors) (contents_of_errors errors_after) (refusal_text e))

@@ -2,7 +2,6 @@
 ghost use Rattle.std.specs.Prelude.{◌≡◌, ◌⊎◌, Err, MatchResult, Ok, map, true};
 ghost use Rattle.language_meaning.specs.Files.{named_of};
 ghost use Rattle.language_meaning.specs.Shapes.{shape_of};
-ghost use Rattle.check_judge.specs.Bits.{challenges_of};
 ghost use Rattle.check_judge.specs.Causes.{IsBusRefusalOr, IsSayingRefusal};
 ghost use Rattle.check_run.specs.RunRefusals.{IsCheckRefused, IsPlanRefused, IsShowRefused, IsTaskRefused};
 ghost use Rattle.check_run.specs.Runs.{AnswersOver, IsPlanned, IsShown, IsVerdict};
@@ -12,14 +11,15 @@ ghost use Rattle.language_meaning.specs.Lookups.{said_of};
 ghost use Rattle.language.specs.Batches.{section_of};
 
 use crate::answer::Answer;
-use crate::json::{push_airs_json, push_lookups_json, push_plan_json, push_report_json};
 use crate::reading::{batch_of, shapes_in, tables_in};
 use crate::witness::{accept, any, witness};
-use check_judge::{JudgeFault, TableField, airs_named, airs_of, judge, judge_plan, sets_over};
+use check_json::{push_airs_json, push_lookups_json, push_plan_json, push_report_json};
+use check_judge::{JudgeFault, airs_named, airs_of, judge, judge_plan, sets_over};
 use check_report::{
     Given, Page, RunRefusal, Told, push_airs, push_lookups, push_plan, push_report, push_target,
 };
-use check_words::{FieldName, Task};
+use check_words::Task;
+use field_list::{FieldEntry, TableField};
 use field_words::{Challenge, Written};
 use language::BatchText;
 use language_meaning::{AirShape, NamedAir, check_buses};
@@ -32,13 +32,13 @@ const MOST_COMPARED: usize = 64;
 pub(crate) fn answer_over<F: TableField, EF: Challenge<F>>(
     alloc: Global,
     given: Given<'_>,
-    field: FieldName,
+    field: FieldEntry,
     task: Task<'_>,
 ) -> Result<Answer, RunRefusal>
     ensures { let E = ⟦<EF as Written<F>>⟧.fields in
         let text = given.entry.text.now in
         let files = map named_of given.entry.files.now in
-        MatchResult result (AnswersOver E text files F.number (challenges_of field) task.entry
+        MatchResult result (AnswersOver E text files F.number field.challenges task.entry
         given.entry.witness.now)
         (λ e. (e ≡ RunRefusal.Memory) ⊎ IsTaskRefused E text files task.entry) }
 {
@@ -70,7 +70,7 @@ pub(crate) fn answer_over<F: TableField, EF: Challenge<F>>(
 fn check<F: TableField, EF: Challenge<F>>(
     alloc: Global,
     given: Given<'_>,
-    field: FieldName,
+    field: FieldEntry,
     limit: usize,
     max_degree: usize,
     json: bool,
@@ -114,7 +114,7 @@ fn check<F: TableField, EF: Challenge<F>>(
 fn plan<F: TableField, EF: Challenge<F>>(
     alloc: Global,
     given: Given<'_>,
-    field: FieldName,
+    field: FieldEntry,
     max_degree: usize,
     json: bool,
     target: Option<u64>,
@@ -123,7 +123,7 @@ fn plan<F: TableField, EF: Challenge<F>>(
     ensures { let E = ⟦<EF as Written<F>>⟧.fields in
         let text = given.entry.text.now in
         let files = map named_of given.entry.files.now in
-        MatchResult result (IsPlanned E text files max_degree (challenges_of field) target)
+        MatchResult result (IsPlanned E text files max_degree field.challenges target)
         (λ e. (e ≡ RunRefusal.Memory) ⊎ IsPlanRefused E text files max_degree) }
 {
     let batch = batch_of(alloc, given)?;
@@ -140,7 +140,7 @@ fn plan<F: TableField, EF: Challenge<F>>(
                 limit: 0,
                 max_degree,
             };
-            let yes = report.for_all_traces().meets(field, target);
+            let yes = report.for_all_traces().meets(field.challenges, target);
             match (airs_alone, json) {
                 (true, true) => push_airs_json(&mut page, told, &report.airs)?,
                 (true, false) => push_airs(&mut page, told, &report.airs)?,

@@ -1,10 +1,10 @@
-//! The program `lookup-check` over streams: `run` reads the words, the text and its tables, judges
-//! the batch or makes and checks its witnesses, and writes the answer, as text or as JSON.
+//! The program `lookup-check` over streams: `run` takes what its words ask for, reads the text and its
+//! tables, judges the batch or makes and checks its witnesses, and writes the answer, as text or as
+//! JSON.
 #![tactic(auto)]
 
 mod answer;
 mod commands;
-mod json;
 mod opened;
 mod program;
 mod reading;

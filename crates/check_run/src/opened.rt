@@ -7,10 +7,11 @@ ghost use Rattle.check_run.specs.internal.Opened.{IsOpened};
 
 use crate::reading::{batch_of, tables_in};
 use batch::BatchPlan;
-use check_judge::{AirOver, PlannedAirs, TableField, planned_airs};
+use check_judge::{AirOver, PlannedAirs, planned_airs};
 use check_report::{Given, RunRefusal};
-use check_words::{ChallengeWords, FieldName};
+use check_words::ChallengeWords;
 use field::Field;
+use field_list::{FieldEntry, TableField};
 use field_words::{Challenge, Written};
 use language::BatchText;
 use std::alloc::Global;
@@ -29,7 +30,7 @@ pub(crate) struct OpenedBatch<F: Field, EF> {
 pub(crate) fn opened<F: TableField, EF: Challenge<F>>(
     alloc: Global,
     given: Given<'_>,
-    field: FieldName,
+    field: FieldEntry,
     words: ChallengeWords<'_>,
 ) -> Result<OpenedBatch<F, EF>, RunRefusal>
     ensures { let E = ⟦<EF as Written<F>>⟧.fields in
@@ -58,7 +59,7 @@ pub(crate) fn opened<F: TableField, EF: Challenge<F>>(
 /// The challenge that a word writes, which is the value of this option.
 fn challenge_of<F: Field, EF: Challenge<F>>(
     alloc: Global,
-    field: FieldName,
+    field: FieldEntry,
     option: &str,
     word: &str,
 ) -> Result<EF, RunRefusal>

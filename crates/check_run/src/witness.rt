@@ -8,10 +8,11 @@ ghost use Rattle.language_witness.specs.Lines.{IsTextOf};
 use crate::answer::Answer;
 use crate::opened::opened;
 use batch::{BatchError, GridCount, Witness};
-use check_judge::{JudgeFault, TableField, traces_of};
+use check_judge::{JudgeFault, traces_of};
 use check_report::{Given, Page, RunRefusal};
-use check_words::{ChallengeWords, FieldName};
+use check_words::ChallengeWords;
 use field::Field;
+use field_list::{FieldEntry, TableField};
 use field_words::{Challenge, Written};
 use language_witness::{WitnessFault, push_witness, read_witness};
 use std::alloc::{AllocError, Global};
@@ -20,7 +21,7 @@ use std::alloc::{AllocError, Global};
 pub(crate) fn witness<F: TableField, EF: Challenge<F>>(
     alloc: Global,
     given: Given<'_>,
-    field: FieldName,
+    field: FieldEntry,
     words: ChallengeWords<'_>,
 ) -> Result<Answer, RunRefusal>
     ensures { let E = ⟦<EF as Written<F>>⟧.fields in
@@ -51,7 +52,7 @@ pub(crate) fn witness<F: TableField, EF: Challenge<F>>(
 pub(crate) fn accept<F: TableField, EF: Challenge<F>>(
     alloc: Global,
     given: Given<'_>,
-    field: FieldName,
+    field: FieldEntry,
     words: ChallengeWords<'_>,
     file: &str,
 ) -> Result<Answer, RunRefusal>
@@ -130,7 +131,7 @@ fn not_accepted(alloc: Global, error: &BatchError) -> Result<Answer, RunRefusal>
 pub(crate) fn any<F: TableField, EF: Challenge<F>>(
     alloc: Global,
     given: Given<'_>,
-    field: FieldName,
+    field: FieldEntry,
     words: ChallengeWords<'_>,
 ) -> Result<Answer, RunRefusal>
     ensures { let E = ⟦<EF as Written<F>>⟧.fields in

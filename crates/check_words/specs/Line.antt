@@ -1,5 +1,5 @@
 -- The command line of `lookup-check`, as a parse reads it.
-use Rattle.std.specs.Prelude.{◌≡◌, ℕ, true, List, [], ◌∷◌, Some, codes, fold, map}
+use Rattle.std.specs.Prelude.{ℕ, true, List, [], ◌∷◌, Some, codes, fold, map}
 use Rattle.std.specs.Borrow.{Bor}
 use Rattle.clap.specs.Words.{App, Rule, Text, new_app, new_rule, with_rule, with_subcommand}
 use Rattle.clap.specs.declared.builder.action.ArgAction.TheVariants.{SetTrue}
@@ -173,11 +173,6 @@ abbrev pub line_app : NameList → App
 line_app fields = with_commands (app_to_show fields)
     (witness_app fields ∷ accept_app fields ∷ any_app fields ∷ bits_app fields ∷ [])
 
--- the names that `--field` takes
-abbrev pub field_names : List Text
-field_names =
-    codes "f7" ∷ codes "babybear4" ∷ codes "koalabear4" ∷ codes "goldilocks2" ∷ []
-
--- these are the names that `--field` takes
-abbrev pub HasFieldNames : NameList → Type 0
-HasFieldNames fields = map (λ name. name.now) fields.now ≡ field_names
+-- the names in a list
+abbrev pub names_in : NameList → List Text
+names_in fields = map (λ name. name.now) fields.now

@@ -11,9 +11,6 @@ use Rattle.check_words.specs.declared.request.Asked.TheVariants.{Batch, Bits}
 use Rattle.check_words.specs.declared.request.BatchRequest.{BatchRequest}
 use Rattle.check_words.specs.declared.request.BitsRequest.{BitsRequest}
 use Rattle.check_words.specs.declared.request.ChallengeWords.{ChallengeWords}
-use Rattle.check_words.specs.declared.request.FieldName.{FieldName}
-use Rattle.check_words.specs.declared.request.FieldName.TheVariants.{F7, BabyBear4, KoalaBear4}
-use Rattle.check_words.specs.declared.request.FieldName.TheVariants.{Goldilocks2}
 use Rattle.check_words.specs.declared.request.Task.{Task}
 use Rattle.check_words.specs.declared.request.Task.TheVariants.{Check, Plan, Pack, Show, Witness}
 use Rattle.check_words.specs.declared.request.Task.TheVariants.{Accept, Any}
@@ -38,13 +35,6 @@ HasNumberOr rows id other n = MatchOption (first_of id rows) (n ≡ other) (IsNu
 abbrev pub HasOptionalNumber : List Row → Text → Option ℕ → Type 0
 HasOptionalNumber rows id number = MatchOption number (first_of id rows ≡ None) (HasNumber rows id)
 
--- the name of a field
-abbrev pub field_text : FieldName → Text
-field_text F7 = codes "f7"
-field_text BabyBear4 = codes "babybear4"
-field_text KoalaBear4 = codes "koalabear4"
-field_text Goldilocks2 = codes "goldilocks2"
-
 -- the value of the argument is this text
 abbrev pub HasText : List Row → Text → Text → Type 0
 HasText rows id text = first_of id rows ≡ Some text
@@ -52,10 +42,6 @@ HasText rows id text = first_of id rows ≡ Some text
 -- the value of the option is this text, or it has no value
 abbrev pub HasOptionalText : List Row → Text → Option (Bor Text) → Type 0
 HasOptionalText rows id text = first_of id rows ≡ option_map (λ s. s.now) text
-
--- the value of `--field` is the name of this field
-abbrev pub HasField : List Row → FieldName → Type 0
-HasField rows field = HasText rows (codes "field") (field_text field)
 
 -- the flag is set exactly if this is true
 abbrev pub HasFlagArgument : List Row → Text → Bool → Type 0
@@ -87,7 +73,7 @@ IsTask name rows (Any challenges) = (name ≡ codes "any") × HasChallenges rows
 
 -- the command `name` is this request about a file
 abbrev pub IsBatch : Text → List Row → BatchRequest → Type 0
-IsBatch name rows x = HasText rows (codes "file") x.file.now × HasField rows x.field
+IsBatch name rows x = HasText rows (codes "file") x.file.now × HasText rows (codes "field") x.field.now
     × HasFlagArgument rows (codes "progress") x.progress × IsTask name rows x.task
 
 -- the command `bits` is this request
@@ -95,7 +81,7 @@ abbrev pub IsBits : List Row → BitsRequest → Type 0
 IsBits rows x = HasNumber rows (codes "messages") x.messages
     × HasNumberOr rows (codes "unbalanced") x.messages x.unbalanced
     × HasNumber rows (codes "width") x.width × (x.unbalanced ≤ x.messages)
-    × HasField rows x.field × HasOptionalNumber rows (codes "target") x.target
+    × HasText rows (codes "field") x.field.now × HasOptionalNumber rows (codes "target") x.target
     × HasFlagArgument rows (codes "json") x.json
 
 -- the command `name`, where its arguments have the values of rows, is this request

@@ -10,4 +10,4 @@ mod request;
 
 pub use line::asked;
 pub use refusal::WordsRefusal;
-pub use request::{Asked, BatchRequest, BitsRequest, ChallengeWords, FieldName, Task};
+pub use request::{Asked, BatchRequest, BitsRequest, ChallengeWords, Task};

@@ -1,7 +1,7 @@
 //! A command line, from its words to its request.
 ghost use Rattle.std.specs.Prelude.{MatchResult, map};
 ghost use Rattle.std.specs.String.{string_bytes};
-ghost use Rattle.check_words.specs.Line.{HasFieldNames, NameList, line_app};
+ghost use Rattle.check_words.specs.Line.{line_app};
 ghost use Rattle.check_words.specs.Words.{IsAsked, IsRefused};
 
 use crate::commands::command_line;
@@ -10,26 +10,15 @@ use crate::refusal::{WordsRefusal, refusal_of, too_many_unbalanced};
 use crate::request::Asked;
 use std::alloc::Global;
 
-/// The names of the fields.
-static FIELDS: [&str; 4] = ["f7", "babybear4", "koalabear4", "goldilocks2"];
-
-/// What `words` ask for; the program's own name is none of them.
+/// What `words` ask for; the program's own name is none of them. `fields` are the names that `--field`
+/// takes.
 ///
 /// The request is the command that `clap` meets, with the values that it finds or the defaults. It
 /// is answered exactly if `clap` finds no fault and the values are those of a request, of which one
 /// is that `--unbalanced` is at most `--messages`; else help, if the words ask for it, or what is
 /// wrong. Any call may run out of memory instead. Left to tests are the texts, and that a value
 /// which `clap` asks for is there where it finds no fault.
-pub fn asked<'a>(alloc: Global, words: &'a [String]) -> Result<Asked<'a>, WordsRefusal>
-    ensures { (fields : NameList) × HasFieldNames fields × MatchResult result
-        (IsAsked (line_app fields) (map string_bytes words.now))
-        (IsRefused (line_app fields) (map string_bytes words.now)) }
-{
-    asked_of_field(alloc, FIELDS.as_slice(), words)
-}
-
-/// The same, where `fields` are the names of the fields.
-fn asked_of_field<'a>(
+pub fn asked<'a>(
     alloc: Global,
     fields: &'a [&'a str],
     words: &'a [String],

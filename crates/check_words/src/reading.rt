@@ -1,16 +1,15 @@
 //! From what `clap` found to a request.
 ghost use Rattle.std.specs.Prelude.{ℕ, Option, MatchOption, codes};
 ghost use Rattle.clap.specs.Words.{found_of, rows_of, subcommand_rows_of};
-ghost use Rattle.check_words.specs.Words.{HasChallenges, HasField, HasFlagArgument, HasNumber};
+ghost use Rattle.check_words.specs.Words.{HasChallenges, HasFlagArgument, HasNumber};
 ghost use Rattle.check_words.specs.Words.{HasNumberOr, HasOptionalNumber, HasOptionalText};
 ghost use Rattle.check_words.specs.Words.{IsBatch, IsBits};
 ghost use Rattle.check_words.specs.internal.Readings.{ReadsMet, ReadsTask};
 ghost use Rattle.check_words.specs.declared.request.BatchRequest.{BatchRequest};
 ghost use Rattle.check_words.specs.declared.request.BitsRequest.{BitsRequest};
 ghost use Rattle.check_words.specs.declared.request.ChallengeWords.{ChallengeWords};
-ghost use Rattle.check_words.specs.declared.request.FieldName.{FieldName};
 
-use crate::request::{Asked, BatchRequest, BitsRequest, ChallengeWords, FieldName, Task};
+use crate::request::{Asked, BatchRequest, BitsRequest, ChallengeWords, Task};
 use clap::ArgMatches;
 
 /// What the matches ask for. `None` if they ask for nothing.
@@ -25,12 +24,12 @@ pub fn asked_of<'a>(matches: &ArgMatches<'a>) -> Option<Asked<'a>>
     }
 }
 
-fn bits_of(found: &ArgMatches<'_>) -> Option<BitsRequest>
+fn bits_of<'a>(found: &ArgMatches<'a>) -> Option<BitsRequest<'a>>
     ensures { MatchOption result
         ((x : BitsRequest) → IsBits (rows_of (found_of found.now)) x → ⊥)
         (IsBits (rows_of (found_of found.now))) }
 {
-    let field = field_of(found)?;
+    let field = text_of(found, "field")?;
     let messages = number_of(found, "messages")?;
     let unbalanced = number_or(found, "unbalanced", messages)?;
     let width = number_of(found, "width")?;
@@ -57,7 +56,7 @@ fn batch_of<'a>(name: &str, found: &ArgMatches<'a>) -> Option<BatchRequest<'a>>
 {
     Some(BatchRequest {
         file: text_of(found, "file")?,
-        field: field_of(found)?,
+        field: text_of(found, "field")?,
         progress: is_set(found, "progress"),
         task: task_of(name, found)?,
     })
@@ -138,14 +137,6 @@ fn challenges_of<'a>(found: &ArgMatches<'a>) -> Option<ChallengeWords<'a>>
         alpha: text_of(found, "alpha")?,
         beta: text_of(found, "beta")?,
     })
-}
-
-fn field_of(found: &ArgMatches<'_>) -> Option<FieldName>
-    ensures { MatchOption result
-        ((f : FieldName) → HasField (rows_of (found_of found.now)) f → ⊥)
-        (HasField (rows_of (found_of found.now))) }
-{
-    FieldName::from_name(text_of(found, "field")?)
 }
 
 fn number_of(found: &ArgMatches<'_>, id: &str) -> Option<u64>

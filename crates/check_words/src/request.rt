@@ -1,43 +1,11 @@
 //! What words ask for.
-ghost use Rattle.std.specs.Prelude.{◌≡◌, ◌≢◌, MatchOption};
-ghost use Rattle.check_words.specs.Words.{field_text};
-
-/// The field that a batch is over.
-#[derive(Debug, Clone, Copy, PartialEq, Eq)]
-pub enum FieldName {
-    /// The field of seven elements.
-    F7,
-    /// The extension of degree four of BabyBear.
-    BabyBear4,
-    /// The extension of degree four of KoalaBear.
-    KoalaBear4,
-    /// The extension of degree two of Goldilocks.
-    Goldilocks2,
-}
-
-impl FieldName {
-    /// The field with this name.
-    pub(crate) fn from_name(name: &str) -> Option<FieldName>
-        ensures { MatchOption result ((field : Self) → name.now ≢ field_text field)
-            (λ field. name.now ≡ field_text field) }
-    {
-        match name {
-            "f7" => Some(FieldName::F7),
-            "babybear4" => Some(FieldName::BabyBear4),
-            "koalabear4" => Some(FieldName::KoalaBear4),
-            "goldilocks2" => Some(FieldName::Goldilocks2),
-            _ => None,
-        }
-    }
-}
-
 /// What the words of a command line ask for.
 #[derive(Debug, Clone, Copy, PartialEq, Eq)]
 pub enum Asked<'a> {
     /// Something of the batch of a file.
     Batch(BatchRequest<'a>),
     /// The bits that are left at this many messages.
-    Bits(BitsRequest),
+    Bits(BitsRequest<'a>),
 }
 
 /// A task about the batch of a file.
@@ -45,8 +13,8 @@ pub enum Asked<'a> {
 pub struct BatchRequest<'a> {
     /// The file with the text of the batch.
     pub file: &'a str,
-    /// The field that the batch is over.
-    pub field: FieldName,
+    /// The name of the field that the batch is over.
+    pub field: &'a str,
     /// Whether each step is told.
     pub progress: bool,
     /// What is to be done.
@@ -106,9 +74,9 @@ pub struct ChallengeWords<'a> {
 
 /// How many bits are left, where so many messages are sent.
 #[derive(Debug, Clone, Copy, PartialEq, Eq)]
-pub struct BitsRequest {
-    /// The field that the challenges are from.
-    pub field: FieldName,
+pub struct BitsRequest<'a> {
+    /// The name of the field that the challenges are from.
+    pub field: &'a str,
     /// How many distinct messages there are at most.
     pub messages: u64,
     /// How many of them do not balance.

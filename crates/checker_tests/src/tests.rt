@@ -15,7 +15,7 @@ mod ranges;
 mod single;
 mod witnesses;
 
-use air::{BaseEntry, BaseLeaf, Expression, SymbolicExpression, SymbolicVariable};
+use air_expressions::{BaseEntry, BaseLeaf, Expression, SymbolicExpression, SymbolicVariable};
 use checker::{BatchFault, BatchInstance, Witness, check_witness, generate_batch, instances_fit};
 use field::{ExtensionField, F7, Field, PrimeCharacteristicRing};
 use lookup::{Challenges, Kind, Lookup, LookupError, LookupTerminal};

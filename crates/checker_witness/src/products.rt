@@ -98,12 +98,12 @@ fn fill_products<EF: Domain>(
     let (values, width) = (aux.values(), aux.width());
     let cell = column + 1;
     for i in 0..products.len() {
-        products[i] = denominators[i] * cell_of(values, width, first + i, cell);
+        products[i] = denominators[i] * cell_in_row(values, width, first + i, cell);
     }
 }
 
 /// A cell of a row of the trace of this width that has these values.
-fn cell_of<EF: Domain>(values: &[EF], width: usize, row: usize, cell: usize) -> EF
+fn cell_in_row<EF: Domain>(values: &[EF], width: usize, row: usize, cell: usize) -> EF
     requires row_exists { row < height (record { values = values.now; width = width }) }
     requires cell_exists { cell < width }
     ensures { result ≡ slice_index_or

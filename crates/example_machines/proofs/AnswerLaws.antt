@@ -1,10 +1,11 @@
 -- The answers to the words of a run.
-use Rattle.std.proofs.Common.{◌≡◌, ◌≢◌, ◌⊎◌, ◌<◌, ◌≤◌, ◌++◌, ℕ, List, [], ◌∷◌, codes, get_or, length, map, string_bytes, Option, None, Some, IfSome, Result, Ok, Err, MatchResult, inl, inr, refl, sym, arith}
+use Rattle.std.proofs.Common.{◌≡◌, ◌≢◌, ◌⊎◌, ◌<◌, ◌≤◌, ◌++◌, ℕ, List, [], ◌∷◌, All, get_or, length, map, string_bytes, Option, None, Some, IfSome, Result, Ok, Err, MatchResult, inl, inr, refl, sym, arith, subst}
 use Rattle.std.specs.declared.alloc.Global.{Global}
 use Rattle.std.specs.declared.string.String.{String}
+use Rattle.field_list.specs.Offers.{HoldsOf, Offers, Statement, names_of}
 use Rattle.field_words.specs.Fields.{Fields}
 use Rattle.example_machines.specs.Machines.{name_of}
-use Rattle.example_machines.specs.Program.{Answers, AnswersOver, IsBadChallenge, IsReport, IsReportRefusal}
+use Rattle.example_machines.specs.Program.{Answers, AnswersKnown, AnswersOver, IsBadChallenge, IsReport, IsReportRefusal}
 use Rattle.example_machines.specs.declared.error.RunError.{RunError}
 use Rattle.example_machines.specs.declared.error.RunError.TheVariants.{CannotReadInput, Memory, UnknownField, UnknownMachine, Usage}
 use Rattle.example_machines.specs.declared.machine.Machine.{Machine}
@@ -52,47 +53,36 @@ four_words (a ∷ b ∷ c ∷ d ∷ []) name field alpha beta low high p q r s =
     λ i. string_bytes (sym p i) ∷ string_bytes (sym q i) ∷ string_bytes (sym r i) ∷ string_bytes (sym s i) ∷ []
 four_words words name field alpha beta low high p q r s = absurd (omega (arith, low, high))
 
-module _ {F K F' K' F'' K'' F''' K''' : Type 0} (f7 : Fields F K) (babybear4 : Fields F' K') (koalabear4 : Fields F'' K'') (goldilocks2 : Fields F''' K''') (words : List (List ℕ)) where
+-- what holds of the field with a name, where the name is known by another term
+pub holds_of_same : (offers : Offers) (statement : Statement) (name other : List ℕ) → name ≡ other → HoldsOf name statement offers → HoldsOf other statement offers
+holds_of_same offers statement name other same held = subst (λ (n : List ℕ). HoldsOf n statement offers) same held
+
+module _ (offers : Offers) (words : List (List ℕ)) where
   -- words that are not four
-  pub usage : (input : List ℕ) → length words ≢ 4 → Answers f7 babybear4 koalabear4 goldilocks2 words input (Err Usage)
+  pub usage : (known : Option (List ℕ)) → length words ≢ 4 → Answers offers words known (Err Usage)
   unfolding Answers
-  usage input other = inl (other, refl)
+  usage known other = inl (other, refl)
 
   module _ (name field alpha beta : List ℕ) (four : words ≡ name ∷ field ∷ alpha ∷ beta ∷ []) where
     -- memory runs out
-    pub out_of_memory : (input : List ℕ) (answer : Result Report RunError) → answer ≡ Err Memory → Answers f7 babybear4 koalabear4 goldilocks2 words input answer
+    pub out_of_memory : (known : Option (List ℕ)) (answer : Result Report RunError) → answer ≡ Err Memory → Answers offers words known answer
     unfolding Answers
-    out_of_memory input answer memory = inr (name, field, alpha, beta, four, inl memory)
+    out_of_memory known answer memory = inr (name, field, alpha, beta, four, inl memory)
 
     -- no machine has the name
-    pub unknown_machine : (input : List ℕ) (shown : String Global) → ((machine : Machine) → name ≢ name_of machine) → string_bytes shown ≡ name → Answers f7 babybear4 koalabear4 goldilocks2 words input (Err (UnknownMachine shown))
+    pub unknown_machine : (known : Option (List ℕ)) (shown : String Global) → ((machine : Machine) → name ≢ name_of machine) → string_bytes shown ≡ name → Answers offers words known (Err (UnknownMachine shown))
     unfolding Answers
-    unknown_machine input shown none is =
+    unknown_machine known shown none is =
         inr (name, field, alpha, beta, four, inr (inl (none, (UnknownMachine shown, (shown, is, refl), refl))))
 
-    module _ (machine : Machine) (named : name ≡ name_of machine) (input : List ℕ) where
-      -- the field is `f7`
-      pub over_f7 : (answer : Result Report RunError) → field ≡ codes "f7" → AnswersOver f7 machine alpha beta input answer → Answers f7 babybear4 koalabear4 goldilocks2 words input answer
+    module _ (machine : Machine) (named : name ≡ name_of machine) (known : Option (List ℕ)) where
+      -- there is a field with the name
+      pub over_field : (answer : Result Report RunError) → HoldsOf field (λ F K o. AnswersKnown o.fields machine alpha beta known answer) offers → Answers offers words known answer
       unfolding Answers
-      over_f7 answer is answers = inr (name, field, alpha, beta, four, inr (inr (machine, named, inl (is, answers))))
+      over_field answer answers = inr (name, field, alpha, beta, four, inr (inr (machine, named, inl answers)))
 
-      -- the field is `babybear4`
-      pub over_babybear4 : (answer : Result Report RunError) → field ≡ codes "babybear4" → AnswersOver babybear4 machine alpha beta input answer → Answers f7 babybear4 koalabear4 goldilocks2 words input answer
+      -- there is none
+      pub unknown_field : (shown : String Global) → All (λ other. other ≢ field) (names_of offers) → string_bytes shown ≡ field → Answers offers words known (Err (UnknownField shown))
       unfolding Answers
-      over_babybear4 answer is answers = inr (name, field, alpha, beta, four, inr (inr (machine, named, inr (inl (is, answers)))))
-
-      -- the field is `koalabear4`
-      pub over_koalabear4 : (answer : Result Report RunError) → field ≡ codes "koalabear4" → AnswersOver koalabear4 machine alpha beta input answer → Answers f7 babybear4 koalabear4 goldilocks2 words input answer
-      unfolding Answers
-      over_koalabear4 answer is answers = inr (name, field, alpha, beta, four, inr (inr (machine, named, inr (inr (inl (is, answers))))))
-
-      -- the field is `goldilocks2`
-      pub over_goldilocks2 : (answer : Result Report RunError) → field ≡ codes "goldilocks2" → AnswersOver goldilocks2 machine alpha beta input answer → Answers f7 babybear4 koalabear4 goldilocks2 words input answer
-      unfolding Answers
-      over_goldilocks2 answer is answers = inr (name, field, alpha, beta, four, inr (inr (machine, named, inr (inr (inr (inl (is, answers)))))))
-
-      -- it is none of them
-      pub unknown_field : (shown : String Global) → field ≢ codes "f7" → field ≢ codes "babybear4" → field ≢ codes "koalabear4" → field ≢ codes "goldilocks2" → string_bytes shown ≡ field → Answers f7 babybear4 koalabear4 goldilocks2 words input (Err (UnknownField shown))
-      unfolding Answers
-      unknown_field shown first second third fourth is =
-          inr (name, field, alpha, beta, four, inr (inr (machine, named, inr (inr (inr (inr (first, second, third, fourth, (UnknownField shown, (shown, is, refl), refl))))))))
+      unknown_field shown none is =
+          inr (name, field, alpha, beta, four, inr (inr (machine, named, inr (none, (UnknownField shown, (shown, is, refl), refl)))))

@@ -1,9 +1,6 @@
 -- The result of a run: a report, or the first refusal in the order of the checks.
-use Rattle.std.specs.Prelude.{◌≡◌, ◌≢◌, ◌⊎◌, ◌↔◌, ◌++◌, ◌<◌, ◌*◌, ℕ, IsTrue, List, [], ◌∷◌, Option, None, Some, codes, cond, length, map, slice_get, slice_index_or, string_bytes, Result, Err, MatchResult}
-use Rattle.std.specs.Io.KnownBytes.{Appends}
+use Rattle.std.specs.Prelude.{◌≡◌, ◌≢◌, ◌⊎◌, ◌↔◌, ◌++◌, ◌<◌, ◌*◌, ℕ, All, IfSome, IsTrue, List, [], ◌∷◌, Option, None, Some, length, map, option_map, slice_get, slice_index_or, string_bytes, Result, Err, MatchResult}
 use Rattle.std.specs.List.{range_with_len, sum_by}
-use Rattle.std.specs.declared.alloc.Global.{Global}
-use Rattle.std.specs.declared.string.String.{String}
 use Rattle.matrix.specs.Matrix.{Matrix, height, row}
 use Rattle.air_expressions.specs.Faults.{HasFirstFault}
 use Rattle.batch.specs.declared.error.BatchError.TheVariants.{Air as OfAir, Lookup as OfLookup}
@@ -16,7 +13,9 @@ use Rattle.lookup_model.specs.Plain.{plain_cells, plain_terminal}
 use Rattle.lookup_model.specs.Sent.{Sent}
 use Rattle.lookup_model.specs.Terminals.{terminal_sum}
 use Rattle.lookup_model.specs.declared.error.LookupError.{LookupError}
+use Rattle.field_list.specs.Offers.{HoldsOf, Offers, names_of}
 use Rattle.field_words.specs.Fields.{Fields}
+use Rattle.program_ending.specs.Endings.{EndsAnswered, AnswerParts}
 use Rattle.example_machines.specs.Input.{IsInput, IsInputRefusal}
 use Rattle.example_machines.specs.Machines.{air_bus_and_weight, air_sends, machine_air_trace, airs_of, input_columns, name_of}
 use Rattle.example_machines.specs.Mismatches.{IsMismatchLine}
@@ -115,43 +114,36 @@ module _ {F K : Type 0} (fields : Fields F K) (machine : Machine) where
       ⊎ ((beta : K) × fields.written beta_word beta
       × ((e ≡ CannotReadInput) ⊎ IsReportRefusal alpha beta input e))))))
 
-module _ {F K F' K' F'' K'' F''' K''' : Type 0} (f7 : Fields F K) (babybear4 : Fields F' K') (koalabear4 : Fields F'' K'') (goldilocks2 : Fields F''' K''') where
+  -- the same of an input whose bytes are known, or are not
+  abbrev pub AnswersKnown : List ℕ → List ℕ → Option (List ℕ) → Result Report RunError → Type 0
+  AnswersKnown alpha_word beta_word known answer =
+      (input : List ℕ) × IfSome known (λ bytes. input ≡ bytes) × AnswersOver alpha_word beta_word input answer
+
+module _ (offers : Offers) where
   -- the answer to four words and an input: the machine is checked before the field
-  abbrev pub AnswersFour : List ℕ → List ℕ → List ℕ → List ℕ → List ℕ → Result Report RunError → Type 0
-  AnswersFour name field alpha beta input answer =
+  abbrev pub AnswersFour : List ℕ → List ℕ → List ℕ → List ℕ → Option (List ℕ) → Result Report RunError → Type 0
+  AnswersFour name field alpha beta known answer =
       (answer ≡ Err Memory)
       ⊎ ((((machine : Machine) → name ≢ name_of machine) × ((e : RunError) × ShowsWord UnknownMachine name e × (answer ≡ Err e)))
       ⊎ ((machine : Machine) × (name ≡ name_of machine)
-      × (((field ≡ codes "f7") × AnswersOver f7 machine alpha beta input answer)
-      ⊎ (((field ≡ codes "babybear4") × AnswersOver babybear4 machine alpha beta input answer)
-      ⊎ (((field ≡ codes "koalabear4") × AnswersOver koalabear4 machine alpha beta input answer)
-      ⊎ (((field ≡ codes "goldilocks2") × AnswersOver goldilocks2 machine alpha beta input answer)
-      ⊎ ((field ≢ codes "f7") × (field ≢ codes "babybear4") × (field ≢ codes "koalabear4") × (field ≢ codes "goldilocks2") × ((e : RunError) × ShowsWord UnknownField field e × (answer ≡ Err e)))))))))
+      × (HoldsOf field (λ F K o. AnswersKnown o.fields machine alpha beta known answer) offers
+      ⊎ (All (λ other. other ≢ field) (names_of offers) × ((e : RunError) × ShowsWord UnknownField field e × (answer ≡ Err e))))))
 
   -- the answer to words and an input: anything but four words is refused
-  unfoldable pub Answers : List (List ℕ) → List ℕ → Result Report RunError → Type 0
-  Answers words input answer =
+  unfoldable pub Answers : List (List ℕ) → Option (List ℕ) → Result Report RunError → Type 0
+  Answers words known answer =
       ((length words ≢ 4) × (answer ≡ Err Usage))
       ⊎ ((name : List ℕ) × (field : List ℕ) × (alpha : List ℕ) × (beta : List ℕ) × (words ≡ name ∷ field ∷ alpha ∷ beta ∷ [])
-      × AnswersFour name field alpha beta input answer)
+      × AnswersFour name field alpha beta known answer)
 
--- What becomes of the errors of a report: the line of a mismatch is appended, if there is one.
-abbrev pub HasMismatch : {E : Type 0} → (E → Option (List ℕ)) → Option (String Global) → E → E → Type 0
-HasMismatch contents None errors errors_after = errors_after ≡ errors
-HasMismatch contents (Some line) errors errors_after = Appends (contents errors) (contents errors_after) (string_bytes line)
+-- the parts of a report, as `write_answer` takes them: its note is the line of a mismatch
+abbrev pub parts_of : Report → AnswerParts
+parts_of report = record { text = string_bytes report.text; note = option_map string_bytes report.mismatch; yes = report.balanced; unwritten = None }
 
--- The errors are as they were, unless there is a mismatch and the whole report stands in the output.
-abbrev pub WritesInOrder : {W E : Type 0} → (W → Option (List ℕ)) → Report → W → W → E → E → Type 0
-WritesInOrder contents report output output_after errors errors_after =
-    (errors_after ≡ errors) ⊎ ((report.mismatch ≢ None) × Appends (contents output) (contents output_after) (string_bytes report.text))
-
--- The status of a run, and what becomes of its two outputs. A report is written whole, with status
--- 0 if the terminals cancel and 1 if they do not, and after it the line of a mismatch to the errors;
--- or the status is 2, and something may be left unwritten. A refusal has status 2 and leaves the
--- output as it was.
+-- The status of a run, and what becomes of its two outputs. A report is written whole, with status 0 if the terminals
+-- cancel and 1 if they do not, and after it the line of a mismatch to the errors; or the status is 2, and a front of them
+-- is written in this order. A refusal has status 2 and leaves the output as it was.
 abbrev pub EndsWithReport : {W E : Type 0} → (W → Option (List ℕ)) → (E → Option (List ℕ)) → Result Report RunError → ℕ → W → W → E → E → Type 0
-EndsWithReport contents error_contents answer status output output_after errors errors_after = MatchResult answer
-    (λ report. (((status ≡ cond report.balanced 0 1) × Appends (contents output) (contents output_after) (string_bytes report.text)
-    × HasMismatch error_contents report.mismatch errors errors_after) ⊎ (status ≡ 2))
-    × WritesInOrder contents report output output_after errors errors_after)
+EndsWithReport contents contents_of_errors answer status output output_after errors errors_after = MatchResult answer
+    (λ report. EndsAnswered contents contents_of_errors (parts_of report) output output_after errors errors_after status)
     (λ e. (status ≡ 2) × (output_after ≡ output))

@@ -1,45 +1,43 @@
 //! A run of the program, from its words to its status.
-ghost use Rattle.std.specs.Prelude.{◌≡◌, ◌⊎◌, ℕ, List, IfSome, MatchResult, OnOk, Result, cond, map, string_bytes};
-ghost use Rattle.std.specs.Io.KnownBytes.{Appends};
+ghost use Rattle.std.specs.Prelude.{◌≡◌, ◌⊎◌, ℕ, List, IfSome, MatchResult, Result, map, string_bytes};
 ghost use Rattle.std.specs.Process.{exit_status};
-ghost use Rattle.example_machines.specs.Program.{Answers, AnswersOver, EndsWithReport, HasMismatch, IsBadChallenge, WritesInOrder};
+ghost use Rattle.example_machines.specs.Program.{Answers, AnswersKnown, AnswersOver, EndsWithReport, IsBadChallenge, parts_of};
 ghost use Rattle.field_words.specs.Fields.{run_fields};
+ghost use Rattle.program_ending.specs.Endings.{EndsAnswered};
 
 use crate::error::RunError;
 use crate::machine::Machine;
 use crate::report::{Report, report_of};
-use field::{F7, Field};
-use field_goldilocks::{Goldilocks, Goldilocks2};
-use field_monty::{BabyBear, BabyBear4, KoalaBear, KoalaBear4};
+use field::Field;
+use field_list::{FieldList, FieldTask, OfferedField};
 use field_words::{Challenge, Written};
+use program_ending::{write_answer, write_refusal};
 use std::alloc::Global;
 use std::io;
 use std::io::{Read, Write};
 use std::process::ExitCode;
 
-/// Runs `words`, which are `MACHINE FIELD ALPHA BETA`, over the rows of `input`.
+/// Runs `words`, which are `MACHINE FIELD ALPHA BETA`, over the rows of `input`; FIELD is the name of one
+/// of the fields in the list `L`.
 ///
 /// Writes the report to `output`, and then the line of the first tuple that does not balance to
 /// `errors`, if there is one. If the run is refused, it writes `error: TEXT` and a line end to `errors`,
 /// and nothing to `output`; TEXT has a line end of its own where a refused word has one. All text is
 /// made before anything is written. The status is 0 if the terminals cancel, 1 if they do not, and 2 if
 /// the run is refused or a write fails.
-pub fn run<R: Read, W: Write, E: Write>(
+pub fn run<L: FieldList, R: Read, W: Write, E: Write>(
     alloc: Global,
     words: &[String],
     input: &mut R,
     output: &mut W,
     errors: &mut E,
 ) -> ExitCode
-    ensures { (bytes : List ℕ) × (answer : Result Report RunError)
-        × IfSome (R.remaining input.old) (λ known. bytes ≡ known)
-        × Answers ⟦<F7 as Written<F7>>⟧.fields ⟦<BabyBear4 as Written<BabyBear>>⟧.fields
-        ⟦<KoalaBear4 as Written<KoalaBear>>⟧.fields
-        ⟦<Goldilocks2 as Written<Goldilocks>>⟧.fields (map string_bytes words.now) bytes answer
+    ensures { (answer : Result Report RunError)
+        × Answers L.offers (map string_bytes words.now) (R.remaining input.old) answer
         × EndsWithReport W.contents E.contents answer (exit_status result) output.old output.new errors.old
         errors.new }
 {
-    match answer(alloc, words, input) {
+    match answer::<L, R>(alloc, words, input) {
         Ok(report) => write_report(&report, output, errors),
         Err(error) => refuse(alloc, error, errors),
     }
@@ -50,51 +48,64 @@ pub fn run<R: Read, W: Write, E: Write>(
 pub fn refuse<E: Write>(alloc: Global, error: RunError, errors: &mut E) -> ExitCode
     ensures { exit_status result ≡ 2 }
 {
-    let _ = match format!(in alloc; "error: {error}\n") {
-        Ok(line) => errors.write_all(line.as_bytes()),
-        Err(_) => errors.write_all(b"error: out of memory\n"),
-    };
-    ExitCode::from(2)
+    match format!(in alloc; "error: {error}\n") {
+        Ok(line) => write_refusal(line.as_bytes(), errors),
+        Err(_) => write_refusal(b"error: out of memory\n", errors),
+    }
 }
 
-/// Writes a report to `output`, and then the line of its mismatch to `errors`, if there is one. The
-/// status is 0 if the terminals cancel, 1 if they do not, and 2 if a write fails.
+/// Writes a report to `output`, and then the line of its mismatch to `errors`, if there is one.
 fn write_report<W: Write, E: Write>(report: &Report, output: &mut W, errors: &mut E) -> ExitCode
-    ensures written { ((exit_status result ≡ cond report.now.balanced 0 1)
-        × Appends (W.contents output.old) (W.contents output.new) (string_bytes report.now.text)
-        × HasMismatch E.contents report.now.mismatch errors.old errors.new)
-        ⊎ (exit_status result ≡ 2) }
-    ensures order { WritesInOrder W.contents report.now output.old output.new errors.old
-        errors.new }
+    ensures { EndsAnswered W.contents E.contents (parts_of report.now) output.old output.new errors.old
+        errors.new (exit_status result) }
 {
-    if write_and_flush(report.text.as_bytes(), output).is_err() {
-        return ExitCode::from(2);
-    }
-    if let Some(line) = &report.mismatch {
-        if write_and_flush(line.as_bytes(), errors).is_err() {
-            return ExitCode::from(2);
-        }
-    }
-    if report.balanced {
-        ExitCode::SUCCESS
-    } else {
-        ExitCode::from(1)
-    }
+    let mismatch = report.mismatch.as_ref().map(|line| line.as_bytes());
+    write_answer(
+        report.text.as_bytes(),
+        mismatch,
+        report.balanced,
+        None,
+        output,
+        errors,
+    )
 }
 
-fn write_and_flush<W: Write>(bytes: &[u8], output: &mut W) -> io::Result<()>
-    ensures { OnOk result (Appends (W.contents output.old) (W.contents output.new) bytes.now) }
-{
-    output.write_all(bytes)?;
-    output.flush()
+/// A report of a machine at two challenges over the rows of an input.
+#[derive(Drop)]
+struct ReportTask<'a, R> {
+    alloc: Global,
+    machine: Machine,
+    alpha: &'a String,
+    beta: &'a String,
+    input: &'a mut R,
+}
+
+impl<'a, R: Read> FieldTask for ReportTask<'a, R> {
+    type Answer = Result<Report, RunError>;
+
+    ghost answers = { λ this answer F K o. AnswersKnown o.fields this.machine
+        (string_bytes this.alpha.now) (string_bytes this.beta.now) (R.remaining this.input.now)
+        answer };
+
+    fn over<O: OfferedField>(self) -> Result<Report, RunError> {
+        let ReportTask {
+            alloc,
+            machine,
+            alpha,
+            beta,
+            input,
+        } = self;
+        answer_over::<O::Base, O::Challenges, R>(alloc, machine, alpha, beta, input)
+    }
 }
 
 /// The report for the words, or the first refusal in the order of the checks.
-fn answer<R: Read>(alloc: Global, words: &[String], input: &mut R) -> Result<Report, RunError>
-    ensures { (bytes : List ℕ) × IfSome (R.remaining input.old) (λ known. bytes ≡ known)
-        × Answers ⟦<F7 as Written<F7>>⟧.fields ⟦<BabyBear4 as Written<BabyBear>>⟧.fields
-        ⟦<KoalaBear4 as Written<KoalaBear>>⟧.fields
-        ⟦<Goldilocks2 as Written<Goldilocks>>⟧.fields (map string_bytes words.now) bytes result }
+fn answer<L: FieldList, R: Read>(
+    alloc: Global,
+    words: &[String],
+    input: &mut R,
+) -> Result<Report, RunError>
+    ensures { Answers L.offers (map string_bytes words.now) (R.remaining input.old) result }
 {
     let [machine, field, alpha, beta] = words else {
         return Err(RunError::Usage);
@@ -102,14 +113,16 @@ fn answer<R: Read>(alloc: Global, words: &[String], input: &mut R) -> Result<Rep
     let Some(machine) = Machine::from_name(machine.as_str()) else {
         return Err(RunError::UnknownMachine(String::from_str(alloc, machine.as_str())?));
     };
-    match field.as_str() {
-        "f7" => answer_over::<F7, F7, R>(alloc, machine, alpha, beta, input),
-        "babybear4" => answer_over::<BabyBear, BabyBear4, R>(alloc, machine, alpha, beta, input),
-        "koalabear4" => answer_over::<KoalaBear, KoalaBear4, R>(alloc, machine, alpha, beta, input),
-        "goldilocks2" => {
-            answer_over::<Goldilocks, Goldilocks2, R>(alloc, machine, alpha, beta, input)
-        }
-        name => Err(RunError::UnknownField(String::from_str(alloc, name)?)),
+    let task = ReportTask {
+        alloc,
+        machine,
+        alpha,
+        beta,
+        input,
+    };
+    match L::over(field.as_str(), task) {
+        Some(answer) => answer,
+        None => Err(RunError::UnknownField(String::from_str(alloc, field.as_str())?)),
     }
 }
 
@@ -121,10 +134,9 @@ fn answer_over<F: Field, EF: Challenge<F>, R: Read>(
     beta: &String,
     input: &mut R,
 ) -> Result<Report, RunError>
-    ensures { (bytes : List ℕ) × IfSome (R.remaining input.old) (λ known. bytes ≡ known)
-        × AnswersOver (run_fields F.ring F.eq F.CHARACTERISTIC EF.ring EF.eq EF.embed EF.inverse
-        EF.written EF.text F.text) machine (string_bytes alpha.now)
-        (string_bytes beta.now) bytes result }
+    ensures { AnswersKnown (run_fields F.ring F.eq F.CHARACTERISTIC EF.ring EF.eq EF.embed EF.inverse
+        EF.written EF.text F.text) machine (string_bytes alpha.now) (string_bytes beta.now)
+        (R.remaining input.old) result }
 {
     let challenges = (
         challenge::<F, EF>(alloc, alpha.as_str())?,

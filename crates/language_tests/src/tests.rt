@@ -8,7 +8,6 @@ mod names;
 mod show;
 mod tables;
 mod tokens;
-mod words;
 
 use language::{Place, TextFault, Why, place_of};
 use std::process::Abort;

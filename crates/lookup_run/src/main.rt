@@ -3,6 +3,7 @@
 #![tactic(auto)]
 
 use example_machines::{RunError, refuse, run};
+use field_list::Offered;
 use std::process::ExitCode;
 use std::{env, io};
 
@@ -15,7 +16,7 @@ fn main(rt: HostRuntime) -> ExitCode {
         Err(_) => return refuse(alloc, RunError::Memory, &mut errors),
     };
     match words {
-        Ok(words) => run(
+        Ok(words) => run::<Offered, _, _, _>(
             alloc,
             words.as_slice(),
             &mut input,

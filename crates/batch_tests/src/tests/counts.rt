@@ -1,8 +1,7 @@
 //! Counts of the messages of plans.
 use super::proving::{group_plan, range_plan, witness};
 use super::{alone, holds, shaped, trace};
-use batch::{BatchError, BatchPlan, BatchTrace, HeightSoundness};
-use checker::{SoundnessCount, Witness};
+use batch::{BatchError, BatchPlan, BatchTrace, HeightSoundness, SoundnessCount, Witness};
 use field::{F7, PrimeCharacteristicRing};
 use lookup::{Kind, LogUpGadget, LookupError, Lookups};
 use std::alloc::Global;

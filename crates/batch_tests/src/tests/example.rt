@@ -4,8 +4,7 @@ ghost use Rattle.air_expressions.specs.StaysWithin.{StaysWithin};
 
 use super::{alone, has_result, holds, trace};
 use air::{Air, AirError, BaseAir, current_cell, current_cells};
-use batch::BatchPlan;
-use checker::Witness;
+use batch::{BatchPlan, Witness};
 use field::{F7, PrimeCharacteristicRing};
 use lookup::{Count, InteractionBuilder, LookupBus, Lookups};
 use matrix::RowMajorMatrix;

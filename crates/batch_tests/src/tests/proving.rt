@@ -1,8 +1,7 @@
 //! Witnesses that plans make and check, by values calculated by hand.
 use super::{alone, cell, has_result, holds, kind, trace};
 use air::{Expression, SymbolicExpression};
-use batch::{BatchError, BatchPlan};
-use checker::Witness;
+use batch::{BatchError, BatchPlan, Witness};
 use field::{F7, Field, PrimeCharacteristicRing};
 use field_monty::{BabyBear, BabyBear4};
 use lookup::{Kind, Lookup, LookupError, LookupTerminal, Lookups};

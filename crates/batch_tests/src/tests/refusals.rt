@@ -1,8 +1,7 @@
 //! Why plans and traces are refused.
 use super::{Shape, alone, has_result, holds, plan, trace};
 use air::{BaseEntry, BaseLeaf, SymbolicExpression, SymbolicVariable};
-use batch::{BatchError, BatchPlan, BatchTrace};
-use checker::BatchFault;
+use batch::{BatchError, BatchFault, BatchPlan, BatchTrace};
 use field::{F2, F7, PrimeCharacteristicRing};
 use field_monty::BabyBear;
 use lookup::{Kind, Lookup, LookupError, Lookups};

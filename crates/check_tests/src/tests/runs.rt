@@ -1,9 +1,9 @@
 //! Whole runs, over streams in memory.
-use super::holds;
 use super::judgements::{TEXT, files};
+use super::{holds, status_of};
 use check_judge::bits_of;
 use check_report::RunRefusal;
-use check_run::{Inputs, refuse, run};
+use check_run::{Inputs, refuse};
 use std::alloc::{AllocError, Global};
 use std::io;
 use std::io::{ErrorKind, Write};
@@ -30,7 +30,7 @@ fn end_of(alloc: Global, words: &[&str], received: &[u8]) -> Result<End, AllocEr
         files: files.as_slice(),
         witness: b"",
     };
-    let status = run(alloc, &given, inputs, &mut output, &mut errors);
+    let status = status_of(alloc, &given, inputs, &mut output, &mut errors)?;
     Ok(End {
         status,
         output,
@@ -199,7 +199,7 @@ fn written(
     };
     let words = [String::from_str(alloc, "--help")?];
     let mut errors = Vec::new(alloc);
-    let ended = run(alloc, &words, inputs, &mut output, &mut errors);
+    let ended = status_of(alloc, &words, inputs, &mut output, &mut errors)?;
     if ended == ExitCode::from(status) && errors.as_slice() == line {
         Ok(Some(output.bytes))
     } else {

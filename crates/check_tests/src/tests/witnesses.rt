@@ -1,7 +1,7 @@
 //! Witnesses as text, and the commands about them.
-use super::holds;
+use super::{holds, status_of};
 use batch::Witness;
-use check_run::{Inputs, run};
+use check_run::Inputs;
 use field::F7;
 use language_meaning::NamedFile;
 use language_witness::{WitnessFault, push_witness, read_witness};
@@ -83,7 +83,7 @@ fn other_texts(rt: HostRuntime) {
 }
 
 /// The status of a run of these words over this witness.
-fn status_of(alloc: Global, words: &[&str], witness: &[u8]) -> Result<ExitCode, AllocError> {
+fn status_over(alloc: Global, words: &[&str], witness: &[u8]) -> Result<ExitCode, AllocError> {
     let mut given = Vec::new(alloc);
     for word in words {
         given.push(String::from_str(alloc, word)?)?;
@@ -99,12 +99,12 @@ fn status_of(alloc: Global, words: &[&str], witness: &[u8]) -> Result<ExitCode, 
         files: files.as_slice(),
         witness,
     };
-    Ok(run(alloc, &given, inputs, &mut output, &mut errors))
+    status_of(alloc, &given, inputs, &mut output, &mut errors)
 }
 
 /// Whether a run of these words over this witness ends with this status.
 fn ends(alloc: Global, words: &[&str], witness: &[u8], status: u8) -> bool {
-    match status_of(alloc, words, witness) {
+    match status_over(alloc, words, witness) {
         Ok(found) => found == ExitCode::from(status),
         Err(_) => false,
     }

@@ -3,6 +3,7 @@ use super::{alone, holds, lookup, range, trace};
 use batch::{BatchPlan, BatchTrace};
 use example_machines::run;
 use field::{F7, PrimeCharacteristicRing};
+use field_list::Offered;
 use lookup::{Lookup, Lookups};
 use matrix::RowMajorMatrix;
 use std::alloc::Global;
@@ -27,7 +28,7 @@ fn status(
     }
     let (mut input, mut written, mut refused) = (rows, Vec::new(alloc), Vec::new(alloc));
     let words = words.as_slice();
-    let code = run(alloc, words, &mut input, &mut written, &mut refused);
+    let code = run::<Offered, _, _, _>(alloc, words, &mut input, &mut written, &mut refused);
     if code == ExitCode::from(0) {
         0
     } else if code == ExitCode::from(1) {

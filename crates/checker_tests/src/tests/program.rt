@@ -1,6 +1,7 @@
 //! Runs of the program over streams in memory: what it writes, and what comes of streams that fail. The
 //! cases at the top of the repository are further runs, of the built program.
 use example_machines::run;
+use field_list::Offered;
 use std::alloc::Global;
 use std::io;
 use std::io::{Read, Write};
@@ -79,7 +80,7 @@ fn expect_refusal(
         inner: b"3 4 1\n",
     };
     let (mut written, mut refused) = (Vec::new(alloc), Vec::new(alloc));
-    let code = run(
+    let code = run::<Offered, _, _, _>(
         alloc,
         words.as_slice(),
         &mut input,
@@ -107,7 +108,7 @@ fn expect_failing_write(
     let mut input = input;
     let mut output = FullWriter { room: room.0 };
     let mut errors = FullWriter { room: room.1 };
-    let code = run(
+    let code = run::<Offered, _, _, _>(
         alloc,
         words.as_slice(),
         &mut input,
@@ -412,7 +413,7 @@ fn expect_runs(rt: &impl Abort, alloc: Global, runs: &[Run]) -> Result<(), Fail>
         let words = words_of(alloc, line)?;
         let mut input = *input;
         let (mut written, mut refused) = (Vec::new(alloc), Vec::new(alloc));
-        let code = run(
+        let code = run::<Offered, _, _, _>(
             alloc,
             words.as_slice(),
             &mut input,
@@ -482,7 +483,7 @@ fn a_mismatch_that_cannot_be_written_ends_the_run(rt: HostRuntime) -> Result<(),
         let mut input = b"3 4 1\n".as_slice();
         let mut output = Vec::new(alloc);
         let mut errors = FullWriter { room };
-        let code = run(
+        let code = run::<Offered, _, _, _>(
             alloc,
             words.as_slice(),
             &mut input,

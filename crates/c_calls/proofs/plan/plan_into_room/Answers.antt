@@ -11,8 +11,8 @@ use Rattle.c_calls.proofs.plan.plan_into_room.Goals as goal
 pub returns-in_err-plan : goal.returns-in_err-plan
 returns-in_err-plan g c = rw (refused_is c.from_residual.result c.from_residual.ensures.1) (inr (inl c.in_err-plan.ensures))
 
-pub returns-in_err-check_rows : goal.returns-in_err-check_rows
-returns-in_err-check_rows g c = rw (refused_is c.from_residual-in_err-check_rows.result c.from_residual-in_err-check_rows.ensures.1) (inr (inr (inl c.in_err-check_rows.ensures)))
+pub returns-in_err-check_airs_have_rows : goal.returns-in_err-check_airs_have_rows
+returns-in_err-check_airs_have_rows g c = rw (refused_is c.from_residual-in_err-check_airs_have_rows.result c.from_residual-in_err-check_airs_have_rows.ensures.1) (inr (inr (inl c.in_err-check_airs_have_rows.ensures)))
 
 pub returns-then-expected-room : goal.returns-then-expected-room
 returns-then-expected-room g c =

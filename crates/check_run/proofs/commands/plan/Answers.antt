@@ -3,7 +3,7 @@ use Rattle.field_words.specs.Fields.{run_fields}
 use Rattle.language_meaning.specs.Files.{named_of}
 use Rattle.language_meaning.specs.Shapes.{Shape, all_shapes, shape_of}
 use Rattle.language.specs.Batches.{Section, section_of}
-use Rattle.check_judge.specs.Bits.{MeetsTarget, challenges_of}
+use Rattle.check_judge.specs.Bits.{MeetsTarget}
 use Rattle.check_judge.specs.Causes.{IsPlanJudgeRefusal}
 use Rattle.check_judge.specs.Found.{sized_over}
 use Rattle.check_judge.specs.Said.{SayOver, airs_of}
@@ -19,7 +19,7 @@ returns-in-Ok g c =
     let sections = map section_of c.in_ok-batch.batch.sections.items in
     let shapes = c.in_ok-shapes.shapes.items in
     let lookups = c.in-Ok.ensures.2 in
-    let meets = subst (λ alphas. IsTrue c.meets-yes.result ↔ MeetsTarget (challenges_of c.args.field) c.args.target c.for_all_traces.result.betas alphas) c.for_all_traces.ensures.1 c.meets-yes.ensures in
+    let meets = subst (λ alphas. IsTrue c.meets-yes.result ↔ MeetsTarget c.args.field.challenges c.args.target c.for_all_traces.result.betas alphas) c.for_all_traces.ensures.1 c.meets-yes.ensures in
     record {
       sections = sections;
       read = c.in_ok-batch.ensures;
@@ -33,7 +33,7 @@ returns-in-Ok g c =
       plan = c.in-Ok.ensures.3;
       report = c.in-Ok.report;
       found = planned_over _ _ c.args.max_degree (sized_over lookups (map shape_of c.deref.result.now)) (sized_over lookups (map shape_of shapes)) c.in-Ok.ensures.3 c.in-Ok.report (ap (λ ss. sized_over lookups (map shape_of ss)) c.deref.ensures.value) c.in-Ok.ensures.6;
-      yes = subst (λ betas. IsTrue c.meets-yes.result ↔ MeetsTarget (challenges_of c.args.field) c.args.target betas c.in-Ok.report.heights.accepting_alphas) c.for_all_traces.ensures.0 meets;
+      yes = subst (λ betas. IsTrue c.meets-yes.result ↔ MeetsTarget c.args.field.challenges c.args.target betas c.in-Ok.report.heights.accepting_alphas) c.for_all_traces.ensures.0 meets;
     }
 
 pub returns : goal.returns

@@ -3,7 +3,7 @@ use Rattle.std.specs.String.{string_bytes}
 use Rattle.check_words.specs.Line.{line_app}
 use Rattle.check_words.specs.Words.{Asks}
 use Rattle.check_words.proofs.LineLaws.{no_fault, no_request_refuses, parse_refuses, same_subcommand}
-use Rattle.check_words.proofs.line.asked_of_field.Goals as goal
+use Rattle.check_words.proofs.line.asked.Goals as goal
 
 pub returns-in-Err : goal.returns-in-Err
 returns-in-Err c = parse_refuses _ _ _ c.in-Err.error _ c.in_ok-command.ensures.shape c.in-Err.ensures.kinds c.refusal_of.ensures

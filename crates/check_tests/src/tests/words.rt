@@ -1,8 +1,6 @@
 //! The command line of `lookup-check`.
 use super::holds;
-use check_words::{
-    Asked, BatchRequest, BitsRequest, ChallengeWords, FieldName, Task, WordsRefusal, asked,
-};
+use check_words::{Asked, BatchRequest, BitsRequest, ChallengeWords, Task, WordsRefusal, asked};
 use std::alloc::{AllocError, Global};
 
 /// The words of a line, between blanks.
@@ -18,7 +16,7 @@ fn asks(alloc: Global, line: &str, wanted: Asked<'_>) -> bool {
     let Ok(words) = words_of(alloc, line) else {
         return false;
     };
-    match asked(alloc, words.as_slice()) {
+    match asked(alloc, FIELDS.as_slice(), words.as_slice()) {
         Ok(found) => found == wanted,
         Err(_) => false,
     }
@@ -29,7 +27,7 @@ fn tells(alloc: Global, line: &str, front: &str) -> bool {
     let Ok(words) = words_of(alloc, line) else {
         return false;
     };
-    match asked(alloc, words.as_slice()) {
+    match asked(alloc, FIELDS.as_slice(), words.as_slice()) {
         Err(WordsRefusal::Told(text)) => text.as_str().starts_with(front),
         _ => false,
     }
@@ -40,18 +38,21 @@ fn helps(alloc: Global, line: &str, usage: &str) -> bool {
     let Ok(words) = words_of(alloc, line) else {
         return false;
     };
-    match asked(alloc, words.as_slice()) {
+    match asked(alloc, FIELDS.as_slice(), words.as_slice()) {
         Err(WordsRefusal::Help(text)) => text.as_str().lines().any(|line| line == usage),
         _ => false,
     }
 }
 
-const BABY: FieldName = FieldName::BabyBear4;
+/// The names that `--field` takes.
+static FIELDS: [&str; 4] = ["f7", "babybear4", "koalabear4", "goldilocks2"];
 
-const KOALA: FieldName = FieldName::KoalaBear4;
+const BABY: &str = "babybear4";
+
+const KOALA: &str = "koalabear4";
 
 /// A request about a file, with no progress told.
-fn quiet<'a>(file: &'a str, field: FieldName, task: Task<'a>) -> Asked<'a> {
+fn quiet<'a>(file: &'a str, field: &'a str, task: Task<'a>) -> Asked<'a> {
     Asked::Batch(BatchRequest {
         file,
         field,
@@ -61,7 +62,7 @@ fn quiet<'a>(file: &'a str, field: FieldName, task: Task<'a>) -> Asked<'a> {
 }
 
 /// The same, with each step told.
-fn told<'a>(file: &'a str, field: FieldName, task: Task<'a>) -> Asked<'a> {
+fn told<'a>(file: &'a str, field: &'a str, task: Task<'a>) -> Asked<'a> {
     Asked::Batch(BatchRequest {
         file,
         field,
@@ -148,7 +149,7 @@ fn requests_without_challenges(rt: HostRuntime) {
         ("plan a", quiet("a", BABY, plan(3, false, None))),
         (
             "plan a --degree 9 --field f7 --target 100 --json --progress",
-            told("a", FieldName::F7, plan(9, true, Some(100))),
+            told("a", "f7", plan(9, true, Some(100))),
         ),
         (
             "plan a --target 18446744073709551615",
@@ -157,7 +158,7 @@ fn requests_without_challenges(rt: HostRuntime) {
         ("pack a --degree 4", quiet("a", BABY, pack(4, false))),
         (
             "pack --progress --degree=2 --json --field goldilocks2 b",
-            told("b", FieldName::Goldilocks2, pack(2, true)),
+            told("b", "goldilocks2", pack(2, true)),
         ),
         ("show a", quiet("a", BABY, show(false))),
         (
@@ -180,7 +181,7 @@ fn requests_at_challenges(rt: HostRuntime) {
         ),
         (
             "witness --beta x --out w.json --alpha y a --progress --field f7",
-            told("a", FieldName::F7, witness(at("y", "x"), Some("w.json"))),
+            told("a", "f7", witness(at("y", "x"), Some("w.json"))),
         ),
         (
             "accept a --alpha=1 --beta=2 --witness w",
@@ -196,7 +197,7 @@ fn requests_at_challenges(rt: HostRuntime) {
         ),
         (
             "any --progress --alpha 7 --beta 8 --field goldilocks2 any",
-            told("any", FieldName::Goldilocks2, any(at("7", "8"))),
+            told("any", "goldilocks2", any(at("7", "8"))),
         ),
     ];
     for (line, wanted) in cases {

@@ -1,6 +1,6 @@
 use Rattle.std.proofs.Common.{◌≡◌, ℕ, List, ◌++◌}
 use Rattle.std.specs.Io.KnownBytes.{Appends}
-use Rattle.check_run.proofs.program.write_front.Given as goal
+use Rattle.program_ending.proofs.answer.write_front.Given as goal
 
 abbrev pub invariant-loop : goal.invariant-loop
 invariant-loop g l = (done : List ℕ) × (l.bytes ≡ done ++ l.rest) × Appends (g.W.Write.contents l.fn.writer) (g.W.Write.contents l.writer) done

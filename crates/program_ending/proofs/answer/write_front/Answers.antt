@@ -1,8 +1,8 @@
 use Rattle.std.proofs.Common.{◌≡◌, ◌-◌, ◌++◌, ◌∙◌, ℕ, List, ap, append_assoc, drop, length, sym, take, take-append-drop}
 use Rattle.std.proofs.KnownBytes.{Appends-kept, Appends-trans}
 use Rattle.std.proofs.lemmas.List.{take_rest}
-use Rattle.check_run.proofs.program.write_front.Goals as goal
-use Rattle.check_run.proofs.program.write_front.Goals.{in-Ok, in-Err}
+use Rattle.program_ending.proofs.answer.write_front.Goals as goal
+use Rattle.program_ending.proofs.answer.write_front.Goals.{in-Ok, in-Err}
 
 -- the front of what is left goes to what is done
 moves_front : (all done left : List ℕ) (n : ℕ) → all ≡ done ++ left → all ≡ (done ++ take n left) ++ take (length left - n) (drop n left)

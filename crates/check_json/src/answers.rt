@@ -1,7 +1,8 @@
 //! Answers as JSON, one object on one line. Numbers that may be past 2^53 are texts, but for rows and targets.
-use check_judge::{AirReport, Deceiving, PlanReport, Report, TableField, airs_of};
-use check_report::{FIELDS, Page, Told, air_name, lookup_at, magnitude, trace_file};
-use check_words::{BitsRequest, FieldName};
+use check_judge::{AirReport, Deceiving, PlanReport, Report, airs_of};
+use check_report::{Page, Told, air_name, lookup_at, magnitude, trace_file};
+use check_words::BitsRequest;
+use field_list::{FieldEntry, TableField};
 use language::{BatchText, place_of};
 use language_meaning::bytes_of;
 use lookup::Lookups;
@@ -153,7 +154,7 @@ fn push_object<T: Serialize>(page: &mut Page, object: &T) -> Result<(), AllocErr
 }
 
 /// Appends the lookups of each AIR in the library's own form, as JSON on one line.
-pub(crate) fn push_lookups_json<F: Serialize>(
+pub fn push_lookups_json<F: Serialize>(
     page: &mut Page,
     text: &[u8],
     batch: &BatchText,
@@ -169,7 +170,7 @@ pub(crate) fn push_lookups_json<F: Serialize>(
 }
 
 /// Appends the answer to `pack`.
-pub(crate) fn push_airs_json(
+pub fn push_airs_json(
     page: &mut Page,
     told: Told<'_>,
     airs: &[AirReport],
@@ -182,7 +183,7 @@ pub(crate) fn push_airs_json(
 }
 
 /// Appends the answer to `plan`, with a target and whether it is met.
-pub(crate) fn push_plan_json(
+pub fn push_plan_json(
     page: &mut Page,
     told: Told<'_>,
     report: &PlanReport,
@@ -192,7 +193,7 @@ pub(crate) fn push_plan_json(
     let alloc = page.alloc();
     let object = PlanObject {
         format: FORMAT,
-        field: field_name(told.field),
+        field: told.field.name,
         airs: air_objects(alloc, told, &report.airs)?,
         height_sum: decimal(alloc, report.height_sum)?,
         characteristic: decimal(alloc, report.characteristic)?,
@@ -206,7 +207,7 @@ pub(crate) fn push_plan_json(
 }
 
 /// Appends the answer to `check`.
-pub(crate) fn push_report_json<F: TableField>(
+pub fn push_report_json<F: TableField>(
     page: &mut Page,
     told: Told<'_>,
     report: &Report<F>,
@@ -219,7 +220,7 @@ pub(crate) fn push_report_json<F: TableField>(
     }
     let object = ReportObject {
         format: FORMAT,
-        field: field_name(told.field),
+        field: told.field.name,
         airs: air_objects(alloc, told, &plan.airs)?,
         height_sum: decimal(alloc, plan.height_sum)?,
         characteristic: decimal(alloc, plan.characteristic)?,
@@ -234,18 +235,19 @@ pub(crate) fn push_report_json<F: TableField>(
 }
 
 /// Appends the answer to `bits`.
-pub(crate) fn push_bits_json(
+pub fn push_bits_json(
     page: &mut Page,
-    request: BitsRequest,
+    entries: &[FieldEntry],
+    request: BitsRequest<'_>,
     is_met: bool,
 ) -> Result<(), AllocError> {
     let alloc = page.alloc();
     let deceiving = Deceiving::of_request(request);
     let mut fields = Vec::new(alloc);
-    for field in FIELDS {
+    for entry in entries {
         fields.push(FieldObject {
-            field: field_name(field),
-            bits: deceiving.bits_in(field),
+            field: entry.name,
+            bits: deceiving.bits_among(entry.challenges),
         })?;
     }
     let (bad_betas, accepting_alphas) = bounds(alloc, deceiving)?;
@@ -285,7 +287,7 @@ fn air_objects<'a>(
 
 fn heights_object(
     alloc: Global,
-    field: FieldName,
+    field: FieldEntry,
     report: &PlanReport,
 ) -> Result<HeightsObject, AllocError> {
     let deceiving = report.for_all_traces();
@@ -294,13 +296,13 @@ fn heights_object(
         most_messages: decimal(alloc, report.heights.most_messages)?,
         bad_betas,
         accepting_alphas,
-        bits: deceiving.bits_in(field),
+        bits: deceiving.bits_among(field.challenges),
     })
 }
 
 fn traces_object<F>(
     alloc: Global,
-    field: FieldName,
+    field: FieldEntry,
     report: &Report<F>,
 ) -> Result<TracesObject, AllocError> {
     let deceiving = report.for_these_traces();
@@ -310,7 +312,7 @@ fn traces_object<F>(
         unbalanced: decimal(alloc, report.counts.unbalanced)?,
         bad_betas,
         accepting_alphas,
-        bits: deceiving.bits_in(field),
+        bits: deceiving.bits_among(field.challenges),
     })
 }
 
@@ -410,14 +412,4 @@ fn signed<F: TableField>(alloc: Global, element: F) -> Result<String, AllocError
     let sign = if element.is_negative() { "-" } else { "" };
     let size = magnitude(element);
     format!(in alloc; "{sign}{size}")
-}
-
-/// The name of a field, as `--field` takes it.
-fn field_name(field: FieldName) -> &'static str {
-    match field {
-        FieldName::F7 => "f7",
-        FieldName::BabyBear4 => "babybear4",
-        FieldName::KoalaBear4 => "koalabear4",
-        FieldName::Goldilocks2 => "goldilocks2",
-    }
 }

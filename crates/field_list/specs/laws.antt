@@ -1,0 +1,2 @@
+-- Laws of the fields that are offered.
+pub mod Coefficients
