@@ -7,7 +7,7 @@ mod steps;
 
 use check_report::RunRefusal;
 use check_run::{Inputs, refuse, run};
-use check_words::{Asked, BatchRequest, Task, WordsRefusal, asked};
+use check_words::{Asked, BatchRequest, Task, asked};
 use field_list::{FieldList, Offered};
 use files::{ReadFiles, read_files};
 use std::process::ExitCode;
@@ -22,21 +22,41 @@ fn main(rt: HostRuntime) -> ExitCode {
         Err(_) => return refuse(RunRefusal::Memory, &mut rt.stderr()),
     };
     match words {
-        Ok(words) => over_files(&rt, words.as_slice()),
+        Ok(words) => over_words(&rt, words.as_slice()),
         Err(_) => refuse(RunRefusal::Memory, &mut rt.stderr()),
     }
 }
 
-/// Runs over the files that the words name.
-fn over_files(rt: &HostRuntime, words: &[String]) -> ExitCode {
+/// Runs what the words ask for. What is told of words that ask for nothing needs no file.
+fn over_words(rt: &HostRuntime, words: &[String]) -> ExitCode {
     let mut names = Vec::new(rt.alloc());
     if Offered::push_names(&mut names).is_err() {
         return refuse(RunRefusal::Memory, &mut rt.stderr());
     }
-    let said = asked(rt.alloc(), names.as_slice(), words);
-    let request = match &said {
-        Ok(Asked::Batch(request)) => Some(*request),
-        _ => None,
+    match asked(rt.alloc(), names.as_slice(), words) {
+        Ok(asked) => over_files(rt, asked),
+        Err(refusal) => {
+            let inputs = Inputs {
+                text: b"",
+                files: &[],
+                witness: b"",
+            };
+            run::<Offered, _, _>(
+                rt.alloc(),
+                Err(refusal),
+                inputs,
+                &mut rt.stdout(),
+                &mut rt.stderr(),
+            )
+        }
+    }
+}
+
+/// Runs what is asked over the files that it names.
+fn over_files(rt: &HostRuntime, asked: Asked<'_>) -> ExitCode {
+    let request = match asked {
+        Asked::Batch(request) => Some(request),
+        Asked::Bits(_) => None,
     };
     let steps = Steps::of(rt, request);
     let files = match read_files(rt, steps, request) {
@@ -55,8 +75,14 @@ fn over_files(rt: &HostRuntime, words: &[String]) -> ExitCode {
     };
     steps.tell(rt, "answering");
     let status = match file_out(request) {
-        Some(file) => run_to_file(rt, said, inputs, file),
-        None => run::<Offered, _, _>(rt.alloc(), said, inputs, &mut rt.stdout(), &mut rt.stderr()),
+        Some(file) => run_to_file(rt, asked, inputs, file),
+        None => run::<Offered, _, _>(
+            rt.alloc(),
+            Ok(asked),
+            inputs,
+            &mut rt.stdout(),
+            &mut rt.stderr(),
+        ),
     };
     steps.tell(rt, "done");
     status
@@ -71,15 +97,10 @@ fn file_out<'a>(request: Option<BatchRequest<'a>>) -> Option<&'a str> {
 }
 
 /// Runs, and writes the answer to a file. A run that is refused leaves the file as it is.
-fn run_to_file(
-    rt: &HostRuntime,
-    said: Result<Asked<'_>, WordsRefusal>,
-    inputs: Inputs<'_>,
-    file: &str,
-) -> ExitCode {
+fn run_to_file(rt: &HostRuntime, asked: Asked<'_>, inputs: Inputs<'_>, file: &str) -> ExitCode {
     let alloc = rt.alloc();
     let mut answer = Vec::new(alloc);
-    let status = run::<Offered, _, _>(alloc, said, inputs, &mut answer, &mut rt.stderr());
+    let status = run::<Offered, _, _>(alloc, Ok(asked), inputs, &mut answer, &mut rt.stderr());
     if status == ExitCode::from(2) || fs::write(rt, file, answer.as_slice()).is_ok() {
         return status;
     }
