@@ -55,6 +55,14 @@ fn is_named(names: &[&str], place: usize, name: &str) -> bool {
     }
 }
 
+/// Whether the entry at a place has this name.
+fn has_entry(entries: &[FieldEntry], place: usize, name: &str) -> bool {
+    match entries.get(place) {
+        Some(entry) => entry.name == name,
+        None => false,
+    }
+}
+
 #[test]
 fn lists_of_fields(rt: HostRuntime) {
     let alloc = rt.alloc();
@@ -68,9 +76,6 @@ fn lists_of_fields(rt: HostRuntime) {
     holds(&rt, "koalabear4", is_named(&names, 2, "koalabear4"));
     holds(&rt, "goldilocks2", is_named(&names, 3, "goldilocks2"));
     holds(&rt, "as many entries", entries.len() == 4);
-    let last = match entries.get(3) {
-        Some(entry) => entry.name == "goldilocks2",
-        None => false,
-    };
+    let last = has_entry(&entries, 3, "goldilocks2");
     holds(&rt, "in the same order", last);
 }
