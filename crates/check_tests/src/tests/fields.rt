@@ -46,36 +46,3 @@ fn fields_by_name(rt: HostRuntime) {
         Offered::over("babybear", Entry).is_none(),
     );
 }
-
-/// Whether a list has this name at a place.
-fn is_named(names: &[&str], place: usize, name: &str) -> bool {
-    match names.get(place) {
-        Some(found) => *found == name,
-        None => false,
-    }
-}
-
-/// Whether the entry at a place has this name.
-fn has_entry(entries: &[FieldEntry], place: usize, name: &str) -> bool {
-    match entries.get(place) {
-        Some(entry) => entry.name == name,
-        None => false,
-    }
-}
-
-#[test]
-fn lists_of_fields(rt: HostRuntime) {
-    let alloc = rt.alloc();
-    let (mut names, mut entries) = (Vec::new(alloc), Vec::new(alloc));
-    let pushed = Offered::push_names(&mut names).is_ok()
-        && Offered::push_entries(&mut entries).is_ok();
-    holds(&rt, "memory", pushed);
-    holds(&rt, "as many names", names.len() == 4);
-    holds(&rt, "f7", is_named(&names, 0, "f7"));
-    holds(&rt, "babybear4", is_named(&names, 1, "babybear4"));
-    holds(&rt, "koalabear4", is_named(&names, 2, "koalabear4"));
-    holds(&rt, "goldilocks2", is_named(&names, 3, "goldilocks2"));
-    holds(&rt, "as many entries", entries.len() == 4);
-    let last = has_entry(&entries, 3, "goldilocks2");
-    holds(&rt, "in the same order", last);
-}
