@@ -136,9 +136,20 @@ class Batch:
         self.names.append(name)
         return said
 
+    def assertion(self):
+        """A constraint, which more often than not holds."""
+        if self.draw.random() < 0.4:
+            return f"assert {self.draw.choice(['', 'bool '])}{self.sum()}"
+        said = self.sum()
+        zero = f"assert ({said}) - ({said})"
+        lone = ["assert is_transition * is_last_row", "assert bool is_first_row", "assert bool is_transition^7"]
+        return self.draw.choice([zero, "assert 0", "assert bool 1", *lone])
+
     def item(self):
         draw = self.draw.random()
-        if draw < 0.12:
+        if draw < 0.08:
+            return self.assertion()
+        if draw < 0.16:
             return self.definition()
         if draw < 0.3:
             return self.group()
@@ -172,7 +183,7 @@ class Batch:
 
 
 TOKEN = re.compile(r'`[^`\n]*`|"[^"\n]*"|[A-Za-z_][A-Za-z0-9_.\[\]]*|[0-9]+|\n|[^\s]')
-WORDS = "bus air query send times at most next local when let together exclusive trace public lookups x 0 65"
+WORDS = "bus air assert bool query send times at most next local when let together exclusive trace public lookups x 0 65"
 TOKENS = [*'(){},=+-*^"`#\n$', *WORDS.split(), "18446744073709551616", '"t0.csv"', '"none.csv"', "`x"]
 
 
@@ -200,6 +211,7 @@ LINES = [
     "query m(1, 2)", "query gaps(1) times a", "query local(1) times 18446744073709551615", "when 1 query m(1)",
     "together {\nquery m(1)\nquery local(1)\n}", "together {\nquery local(1)\nquery local(1, 2)\n}", "air x {",
     "air y {\n}", 'air z {\ntrace "t0.csv"\n}', "height 3", "columns (a, a)",
+    "assert a - a", "assert bool a", "assert bool", "assert 0 * (x)", "assert bool bool", "assert `bool`",
 ]  # fmt: skip
 
 

@@ -81,6 +81,17 @@ def counting(lookup, number, air, index, row):
     return [branch for branch, flag in zip(lookup.branches, flags) if flag]
 
 
+def failure_of(air):
+    """The first row of an AIR on which a constraint is not zero, with the first such constraint by its number and its
+    value there, or None."""
+    for row in range(len(air.main.rows)):
+        for number, constraint in enumerate(air.constraints):
+            value = value_of(constraint.zero, air, row)
+            if value:
+                return row, number, value
+    return None
+
+
 # --- degrees ---
 
 

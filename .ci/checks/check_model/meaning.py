@@ -9,11 +9,13 @@ MOST_NODES, MOST_LAYERS, MOST_WEIGHT = 1048576, 1024, 2**64 - 1
 SELECTORS = (b"is_first_row", b"is_last_row", b"is_transition")
 
 # An AIR over its tables. `fixed` is the preprocessed table, or None.
-Whole = collections.namedtuple("Whole", "said main fixed lookups")
+Whole = collections.namedtuple("Whole", "said main fixed lookups constraints")
 # A lookup, which is one column. `bus` is None where it is local, and `weights` are those of its messages. A branch has
 # a flag, or None, the values of its tuple and its count, as expressions whose names are found.
 Lookup = collections.namedtuple("Lookup", "at word bus exclusive branches weight weights")
 Branch = collections.namedtuple("Branch", "flag tuple count")
+# An expression that is zero on every row, whose names are found.
+Constraint = collections.namedtuple("Constraint", "at zero")
 
 
 class TableFault(Exception):
@@ -264,8 +266,16 @@ def lookup_of(scope, declared, item):
     return Lookup(item.at, word, first.bus, exclusive, branches, weight, weights)
 
 
-def lookups_of(room, declared, air, main, fixed):
-    scope, lookups = Scope(room, main, fixed), []
+def constraint_of(scope, item):
+    boolean, said = item.said
+    if boolean:
+        said = ("*", said, ("-", said, ("number", first_leaf(said), 1)))
+    return Constraint(item.at, scope.found(said))
+
+
+def said_of(room, declared, air, main, fixed):
+    """The lookups and the constraints of an AIR."""
+    scope, lookups, constraints = Scope(room, main, fixed), [], []
     for item in air.items:
         if item.kind == "let":
             at, name, said = item.said
@@ -277,7 +287,9 @@ def lookups_of(room, declared, air, main, fixed):
             raise Fault(item.at, "LookupsFile")
         elif item.kind in ("message", "together", "exclusive"):
             lookups.append(lookup_of(scope, declared, item))
-    return lookups
+        elif item.kind == "assert":
+            constraints.append(constraint_of(scope, item))
+    return lookups, constraints
 
 
 def check_lookups(air, lookups):
@@ -322,11 +334,11 @@ def airs_of(sections, folder):
         for kind, table in (("preprocessed", fixed), ("trace", main)):
             if table is not None and not table.rows:
                 raise NoRows(files_of(air, kind, None)[1])
-        lookups = lookups_of(room, declared, air, main, fixed)
+        lookups, constraints = said_of(room, declared, air, main, fixed)
         check_lookups(air, lookups)
         if fixed is not None and len(fixed.rows) != len(main.rows):
             raise Fault(air.at, "Heights")
-        wholes.append(Whole(air, main, fixed, lookups))
+        wholes.append(Whole(air, main, fixed, lookups, constraints))
     return wholes, declared
 
 
@@ -335,7 +347,7 @@ def planned_of(sections, folder):
     airs = [section for section in sections if isinstance(section, Air)]
     shapes = [shapes_of(folder, air) for air in airs]
     declared, room = declared_in(sections), Room()
-    wholes = [Whole(air, *shape, lookups_of(room, declared, air, *shape)) for air, shape in zip(airs, shapes)]
+    wholes = [Whole(air, *shape, *said_of(room, declared, air, *shape)) for air, shape in zip(airs, shapes)]
     for whole in wholes:
         check_lookups(whole.said, whole.lookups)
     return wholes

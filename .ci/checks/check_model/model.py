@@ -74,7 +74,7 @@ def well_formed(airs):
 
 
 def checked(options):
-    """`check`: whether all messages balance."""
+    """`check`: whether all messages balance and all constraints hold."""
 
     def report(sections, folder, text):
         airs, declared = meaning.airs_of(sections, folder)

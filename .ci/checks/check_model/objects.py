@@ -68,9 +68,9 @@ def name_of(name):
         return None
 
 
-def of_air(air):
+def of_air(text, air, is_checked=False):
     columns = counting.packed_columns(air.lookups)
-    return {
+    said = {
         "name": name_of(air.said.name),
         "rows": len(air.main.rows),
         "columns": len(air.main.names),
@@ -79,15 +79,24 @@ def of_air(air):
         "packed_degrees": [degree for degree, _ in columns],
         "packed_lookups": [numbers for _, numbers in columns],
     }
+    if air.constraints:
+        said["constraints"] = [{"text_line": line_of(text, it.at)} for it in air.constraints]
+        failure = counting.failure_of(air) if is_checked else None
+        if failure:
+            row, number, value = failure
+            file = name_of(next(item.said[1] for item in air.said.items if item.kind == "trace"))
+            failed = {"row": row, "value": str(signed(value)), "file": file, "file_line": row + 2}
+            said["constraints"][number]["failure"] = failed
+    return said
 
 
-def before_traces(airs):
-    """What is said before any trace is seen."""
+def before_traces(text, airs, is_checked=False):
+    """What is said before any trace is seen; and where constraints fail, once they are checked."""
     most = counting.most_messages(airs)
     betas, alphas = counting.most_left(airs) if most else (None, None)
     return {
         "field": ASKED.name,
-        "airs": [of_air(air) for air in airs],
+        "airs": [of_air(text, air, is_checked) for air in airs],
         "height_sum": str(counting.height_sum(airs)),
         "characteristic": str(ASKED.characteristic),
         "ids": len(counting.ids_of(airs)),
@@ -110,17 +119,17 @@ def target(bits):
     return {"target": wanted, "meets": None if wanted is None else counting.is_met(bits)}
 
 
-def packed(_text, airs):
-    return object_of(airs=[of_air(air) for air in airs]), True
+def packed(text, airs):
+    return object_of(airs=[of_air(text, air) for air in airs]), True
 
 
-def planned(_text, airs):
+def planned(text, airs):
     bits = most_bits(airs)
-    return object_of(**before_traces(airs), **target(bits)), counting.is_met(bits)
+    return object_of(**before_traces(text, airs), **target(bits)), counting.is_met(bits)
 
 
 def checked(text, airs, messages):
-    """The answer of `check`, and whether all messages balance."""
+    """The answer of `check`, and whether all messages balance and all constraints hold."""
     keys, unbalanced = counting.key_counts(airs, messages)
     betas, alphas = counting.left_of(keys, unbalanced, counting.widest_of(airs)) if unbalanced else (None, None)
     traces = {
@@ -133,7 +142,10 @@ def checked(text, airs, messages):
     groups = counting.groups_of(airs, messages)
     well = not any(group.unbalanced for group in groups)
     buses = [of_group(text, airs, group) for group in groups]
-    return object_of(**before_traces(airs), traces=traces, buses=buses, balanced=well), well
+    hold = not any(map(counting.failure_of, airs))
+    of_constraints = {"constraints_hold": hold} if any(air.constraints for air in airs) else {}
+    said = before_traces(text, airs, is_checked=True)
+    return object_of(**said, traces=traces, buses=buses, balanced=well, **of_constraints), well and hold
 
 
 def of_group(text, airs, group):

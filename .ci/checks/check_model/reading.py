@@ -192,6 +192,12 @@ class Reader:
             self.sign("=")
             said = self.sum() if kind == "let" else self.want("number", "Number").text
             return Item(token.at, kind, (name.at, name.text, said))
+        if kind == "assert":
+            self.take()
+            boolean = self.is_word(b"bool")
+            if boolean:
+                self.take()
+            return Item(token.at, kind, (boolean, self.sum()))
         if kind == "together":
             self.take()
             return Item(token.at, kind, self.block(lambda: Part(None, self.message()), "Verb"))

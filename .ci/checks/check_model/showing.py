@@ -5,8 +5,10 @@ from . import counting, meaning
 from .fields import ASKED, ask
 from .objects import name_of
 from .reading import Fault, Reader, batch_of
+from .telling import line_of
 
 TITLES = ["lookup", "line", "bus", "tuple", "counts", "when", "weight"]
+TITLES_OF_CONSTRAINTS = ["constraint", "line", "zero"]
 RIGHT = {"lookup", "line", "weight"}
 
 
@@ -25,16 +27,20 @@ def cells_of(header, line):
 
 
 def shown_in(output):
-    """The messages that `show` tells of each AIR."""
-    airs, header = [], None
+    """The messages and the constraints that `show` tells of each AIR."""
+    airs, header, zeros = [], None, None
     for line in output.decode(errors="surrogateescape").splitlines():
         if line.startswith("  ") and line.split() == TITLES:
-            header = line
+            header, zeros = line, None
+        elif line.startswith("  ") and line.split() == TITLES_OF_CONSTRAINTS:
+            zeros = line.index("zero")
+        elif line.startswith("  ") and zeros:
+            airs[-1][1].append((*line[:zeros].split(), line[zeros:]))
         elif line.startswith("  ") and header:
-            airs[-1].append(cells_of(header, line))
+            airs[-1][0].append(cells_of(header, line))
         elif line:
-            airs.append([])
-            header = None
+            airs.append(([], []))
+            header = zeros = None
     return airs
 
 
@@ -67,6 +73,17 @@ def faults_of_part(air, scope, lookup, branch, weight, cells):
                 return
 
 
+def faults_of_constraints(air, scope, text, shown):
+    """What is wrong with the constraints of an AIR that are shown."""
+    wanted = [(str(number), str(line_of(text, it.at))) for number, it in enumerate(air.constraints)]
+    if [it[:2] for it in shown] != wanted:
+        yield f"the constraints {shown} are shown, and not {wanted}"
+        return
+    for constraint, (_, _, zero) in zip(air.constraints, shown):
+        if not is_alike(air, read_again(scope, zero), constraint.zero):
+            yield f"{zero} means another value than {constraint.zero}"
+
+
 def scope_of(air):
     """The names of an AIR's columns and public values, without its other definitions."""
     scope = meaning.Scope(meaning.Room(), air.main, air.fixed)
@@ -88,7 +105,7 @@ def faults_of(text, folder, output, field=b"babybear4"):
     if len(airs) != len(shown):
         return [f"{len(shown)} AIRs are shown, and not {len(airs)}"], 0
     faults, count = [], 0
-    for air, lines in zip(airs, shown):
+    for air, (lines, zeros) in zip(airs, shown):
         said = [(lookup, *it) for lookup in air.lookups for it in zip(lookup.branches, lookup.weights)]
         if len(said) != len(lines):
             faults.append(f"{len(lines)} messages are shown, and not {len(said)}")
@@ -100,6 +117,12 @@ def faults_of(text, folder, output, field=b"babybear4"):
                     faults += faults_of_part(air, scope, lookup, branch, weight, cells)
                 except Fault as fault:
                     faults.append(f"{cells} cannot be read again: {fault.why}")
+            try:
+                faults += faults_of_constraints(air, scope, text, zeros)
+            except Fault as fault:
+                faults.append(f"{zeros} cannot be read again: {fault.why}")
+        elif len(zeros) != len(air.constraints):
+            faults.append(f"{len(zeros)} constraints are shown, and not {len(air.constraints)}")
     return faults, count
 
 
@@ -168,14 +191,21 @@ def is_alike(air, again, wanted):
 def faults_of_lists(airs, shown):
     """What is wrong with the lookups of each AIR as JSON, and how many were compared."""
     wanted = [(name_of(air.said.name), len(air.lookups)) for air in airs]
-    if wanted != [(it["name"], len(it["lookups"])) for it in shown] or any(len(it) != 2 for it in shown):
+    if wanted != [(it["name"], len(it["lookups"])) for it in shown]:
         return ["other names or numbers of lookups"], 0
+    members = [{"name", "lookups", *(["constraints"] if air.constraints else [])} for air in airs]
+    zeros = [it.get("constraints", []) for it in shown]
+    if members != [set(it) for it in shown] or list(map(len, zeros)) != [len(air.constraints) for air in airs]:
+        return ["other members or numbers of constraints"], 0
     faults, count = [], 0
     for air, those in zip(airs, shown):
         public = [item.said[2] for item in air.said.items if item.kind == "public"]
         for lookup, said in zip(air.lookups, [] if isinstance(air.main.rows, range) else those["lookups"]):
             faults += faults_of_lookup(air, lookup, said, public)
             count += 1
+        for constraint, said in zip(air.constraints, [] if isinstance(air.main.rows, range) else those.get("constraints", [])):
+            if not is_alike(air, expression_in(said, public), constraint.zero):
+                faults.append(f"{str(said)[:200]} means another value than {constraint.zero}")
     return faults, count
 
 

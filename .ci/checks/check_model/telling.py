@@ -276,6 +276,37 @@ def all_traces_told(airs):
     return told
 
 
+def constraints_told(text, airs):
+    """Whether all constraints hold, and what is told of them."""
+    count = sum(len(air.constraints) for air in airs)
+    failures = [(air, counting.failure_of(air)) for air in airs]
+    told = b""
+    for air, failure in failures:
+        if failure:
+            row, number, value = failure
+            file = next(item.said[1] for item in air.said.items if item.kind == "trace")
+            places = (shown(air.said.name), grouped(signed(value)), shown(file), row + 2, row)
+            told += b"  %s: %s at %s:%d (row %d), " % places
+            told += b"assert of line %d\n" % line_of(text, air.constraints[number].at)
+    if told:
+        return False, b"\nCONSTRAINTS (the first row of an AIR on which one is not zero)\n" + told
+    hold = b"constraint holds" if count == 1 else b"constraints hold"
+    return True, b"\nCONSTRAINTS\n  %s %s on all rows of the traces\n" % (grouped(count), hold) if count else b""
+
+
+def constraint_counts_told(airs):
+    lines = [[shown(air.said.name), grouped(len(air.constraints))] for air in airs if air.constraints]
+    return b"\nCONSTRAINTS\n" + table(["air", "constraints"], lines, {1}) if lines else b""
+
+
+VERDICTS = {
+    (True, True): b"\nBALANCED: every tuple of every bus and local lookup cancels\n",
+    (False, True): b"\nNOT BALANCED\n",
+    (True, False): b"\nNOT SATISFIED: all messages balance, but a constraint fails\n",
+    (False, False): b"\nNOT BALANCED, and a constraint fails\n",
+}
+
+
 def target_told(bits):
     """The line of a target, if there is one."""
     if ASKED.target is None:
@@ -292,6 +323,7 @@ def plan_told(_text, airs):
     """What is told of a batch before any trace is seen, and whether the target is met."""
     bits = most_bits(airs)
     told = airs_told(airs) + heights_told(airs) + b"\nSOUNDNESS\n" + all_traces_told(airs)
+    told += constraint_counts_told(airs)
     return told + target_told(bits), counting.is_met(bits)
 
 
@@ -310,11 +342,11 @@ def bits_table_told(messages, unbalanced, widest):
 
 
 def report_told(text, airs, declared, messages):
-    """A report, and whether all messages balance."""
+    """A report, and whether all messages balance and all constraints hold."""
     groups = counting.groups_of(airs, messages)
     told = airs_told(airs) + heights_told(airs) + buses_told(airs, declared, groups)
     told += b"".join(unbalanced_told(text, airs, declared, group) for group in groups)
     told += soundness_told(airs, messages)
-    if any(group.unbalanced for group in groups):
-        return told + b"\nNOT BALANCED\n", False
-    return told + b"\nBALANCED: every tuple of every bus and local lookup cancels\n", True
+    balanced = not any(group.unbalanced for group in groups)
+    hold, of_constraints = constraints_told(text, airs)
+    return told + of_constraints + VERDICTS[balanced, hold], balanced and hold

@@ -186,6 +186,7 @@ LONG = [
     ("many messages", lambda: air(*["query m(a)"] * MANY), 1, OFTEN),
     ("many messages in a group", lambda: air("together {", *["query m(a)"] * MANY, "}"), 1, OFTEN),
     ("many flags", lambda: air("exclusive {", *["when 0 query m(a)"] * MANY, "}"), 0, b"BALANCED"),
+    ("many constraints", lambda: air(*["assert a - 1"] * 20000), 0, b"  20,000 constraints hold on all rows"),
     ("many values", lambda: query(", ".join("a" * MANY)), 1, b"widest tuple W = 100,000\n"),
     ("many local messages", lambda: air(*["query local(a)"] * 5000), 1, b"ids: 5,000"),
     ("many buses", lambda: air(*each("query m{}(a)", 2000)), 1, b"ids: 2,000"),

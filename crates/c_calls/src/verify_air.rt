@@ -115,8 +115,8 @@ pub(crate) fn answer_verify_air<const P: u32, K: QuarticParameters<P>>(
 /// and a beta for each of them; further challenges are ignored.
 ///
 /// So a prover's own challenges can be given, whatever ids it has. That lookups on one bus share an alpha and a
-/// beta and others do not, and that the terminals of a batch sum to zero, is for the caller to see to. Of what
-/// passes, the terminal is the sum of all fractions.
+/// beta and others do not, and that the terminals of a batch sum to zero, is for the caller to see to. An AIR with
+/// lookups needs a row: over none it is refused. Of what passes, the terminal is the sum of all fractions.
 ///
 /// Answers 0 if they do, and otherwise the code of the first refusal.
 #[unsafe(no_mangle)]

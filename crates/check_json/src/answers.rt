@@ -1,10 +1,12 @@
 //! Answers as JSON, one object on one line. Numbers that may be past 2^53 are texts, but for rows and targets.
-use check_judge::{AirReport, Deceiving, PlanReport, Report, airs_of};
-use check_report::{Page, Told, air_name, lookup_at, magnitude, trace_file};
+use air_expressions::SymbolicExpression;
+use check_judge::{AirReport, ConstraintFailure, Deceiving, PlanReport, Report, airs_of};
+use check_report::{Lines, Page, Told, air_name, is_constraint, lookup_at, magnitude, trace_file};
 use check_words::BitsRequest;
+use field::PrimeCharacteristicRing;
 use field_list::{FieldEntry, TableField};
 use language::{BatchText, place_of};
-use language_meaning::bytes_of;
+use language_meaning::{NamedAir, bytes_of, constraints_over};
 use lookup::Lookups;
 use lookup::debug_util::{BusGroup, GroupName, Place, UnbalancedTuple};
 use serde::Serialize;
@@ -49,6 +51,8 @@ struct ReportObject<'a> {
     traces: TracesObject,
     buses: Vec<BusObject<'a>>,
     balanced: bool,
+    #[serde(skip_serializing_if = "Option::is_none")]
+    constraints_hold: Option<bool>,
 }
 
 /// `bits`.
@@ -75,6 +79,25 @@ struct AirObject<'a> {
     degrees: &'a [usize],
     packed_degrees: &'a [usize],
     packed_lookups: &'a [Vec<usize>],
+    #[serde(skip_serializing_if = "Vec::is_empty")]
+    constraints: Vec<ConstraintObject<'a>>,
+}
+
+/// A constraint: its line, and where it fails, if that is the first place of its AIR at which one does.
+#[derive(Drop, Serialize)]
+struct ConstraintObject<'a> {
+    text_line: usize,
+    #[serde(skip_serializing_if = "Option::is_none")]
+    failure: Option<FailureObject<'a>>,
+}
+
+/// A row on which a constraint is not zero, and its value there.
+#[derive(Drop, Serialize)]
+struct FailureObject<'a> {
+    row: usize,
+    value: String,
+    file: Option<&'a str>,
+    file_line: u64,
 }
 
 /// At how few challenges a batch is accepted, whatever traces of its heights are.
@@ -137,11 +160,13 @@ struct FieldObject {
     bits: Option<u32>,
 }
 
-/// An AIR as JSON has it: its name, if that is UTF-8, and its lookups.
+/// An AIR as JSON has it: its name, if that is UTF-8, its lookups and its constraints.
 #[derive(Drop, Serialize)]
 struct ShownAir<'a, F> {
     name: Option<&'a str>,
     lookups: &'a Lookups<F>,
+    #[serde(skip_serializing_if = "Vec::is_empty")]
+    constraints: Vec<SymbolicExpression<F>>,
 }
 
 /// Appends an object on a line of its own.
@@ -153,18 +178,23 @@ fn push_object<T: Serialize>(page: &mut Page, object: &T) -> Result<(), AllocErr
     page.word("\n")
 }
 
-/// Appends the lookups of each AIR in the library's own form, as JSON on one line.
-pub fn push_lookups_json<F: Serialize>(
+/// Appends the lookups and the constraints of each AIR in the library's own form, as JSON on one line.
+pub fn push_lookups_json<F: PrimeCharacteristicRing + Serialize>(
     page: &mut Page,
     text: &[u8],
     batch: &BatchText,
+    named: &[NamedAir],
     sets: &[Lookups<F>],
 ) -> Result<(), AllocError> {
     let said = airs_of(page.alloc(), batch)?;
     let mut airs = Vec::new(page.alloc());
-    for (air, lookups) in said.iter().zip(sets) {
+    for ((air, named), lookups) in said.iter().zip(named).zip(sets) {
         let name = str::from_utf8(bytes_of(text, air.name)).ok();
-        airs.push(ShownAir { name, lookups })?;
+        airs.push(ShownAir {
+            name,
+            lookups,
+            constraints: constraints_over(page.alloc(), &named.constraints)?,
+        })?;
     }
     push_object(page, &airs)
 }
@@ -218,10 +248,20 @@ pub fn push_report_json<F: TableField>(
     for group in &report.groups {
         buses.push(bus_object(alloc, told, group)?)?;
     }
+    let mut airs = air_objects(alloc, told, &plan.airs)?;
+    let mut has_constraints = false;
+    for (index, (air, failure)) in airs.iter_mut().zip(&report.failures).enumerate() {
+        has_constraints = has_constraints || !air.constraints.is_empty();
+        if let Some(failure) = failure {
+            if let Some(constraint) = air.constraints.get_mut(failure.constraint) {
+                constraint.failure = Some(failure_object(alloc, told, index, *failure)?);
+            }
+        }
+    }
     let object = ReportObject {
         format: FORMAT,
         field: told.field.name,
-        airs: air_objects(alloc, told, &plan.airs)?,
+        airs,
         height_sum: decimal(alloc, plan.height_sum)?,
         characteristic: decimal(alloc, plan.characteristic)?,
         ids: plan.ids,
@@ -230,6 +270,11 @@ pub fn push_report_json<F: TableField>(
         traces: traces_object(alloc, told.field, report)?,
         buses,
         balanced: report.balanced,
+        constraints_hold: if has_constraints {
+            Some(report.hold)
+        } else {
+            None
+        },
     };
     push_object(page, &object)
 }
@@ -271,6 +316,7 @@ fn air_objects<'a>(
     airs: &'a [AirReport],
 ) -> Result<Vec<AirObject<'a>>, AllocError> {
     let mut objects = Vec::new(alloc);
+    let mut lines = Lines::of(told.text);
     for (index, air) in airs.iter().enumerate() {
         objects.push(AirObject {
             name: str::from_utf8(air_name(told, index)).ok(),
@@ -280,9 +326,51 @@ fn air_objects<'a>(
             degrees: air.degrees.as_slice(),
             packed_degrees: air.packed.as_slice(),
             packed_lookups: air.packed_lookups.as_slice(),
+            constraints: constraint_objects(alloc, told, index, &mut lines)?,
         })?;
     }
     Ok(objects)
+}
+
+/// The constraints of the AIR with this number, of none of which it is known where it fails.
+fn constraint_objects<'a>(
+    alloc: Global,
+    told: Told<'a>,
+    air: usize,
+    lines: &mut Lines<'_>,
+) -> Result<Vec<ConstraintObject<'a>>, AllocError> {
+    let mut objects = Vec::new(alloc);
+    if let Some(said) = told.airs.get(air) {
+        for item in &said.items {
+            if is_constraint(&item.item) {
+                objects.push(ConstraintObject {
+                    text_line: lines.line_of(item.at),
+                    failure: None,
+                })?;
+            }
+        }
+    }
+    Ok(objects)
+}
+
+fn failure_object<'a, F: TableField>(
+    alloc: Global,
+    told: Told<'a>,
+    air: usize,
+    failure: ConstraintFailure<F>,
+) -> Result<FailureObject<'a>, AllocError> {
+    let mut file = None;
+    if let Some(said) = told.airs.get(air) {
+        if let Some(name) = trace_file(said, false) {
+            file = str::from_utf8(bytes_of(told.text, name)).ok();
+        }
+    }
+    Ok(FailureObject {
+        row: failure.row,
+        value: signed(alloc, failure.value)?,
+        file,
+        file_line: (failure.row as u64).saturating_add(2),
+    })
 }
 
 fn heights_object(

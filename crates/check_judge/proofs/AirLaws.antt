@@ -1,12 +1,11 @@
 -- What is said of each AIR, one by one.
 use Rattle.std.proofs.Common.{◌≡◌, ◌++◌, ◌+◌, ◌<◌, ◌≤◌, ℕ, suc, List, [], ◌∷◌, ap, refl, sym, ◌∙◌, subst, subst₂, drop, get_or, length, map}
 use Rattle.std.proofs.lemmas.List.{append-nil, append_assoc, drop-map, drop_all, drop_more}
-use Rattle.lookup_debug.specs.Contributions.{Traced}
 use Rattle.language_meaning.specs.Shapes.{Shape}
 use Rattle.language_meaning.specs.Tables.{TablesOf}
 use Rattle.language_meaning.specs.Lookups.{Said}
 use Rattle.language.specs.Batches.{Air, Section}
-use Rattle.check_judge.specs.Said.{AreSaid, IsSaid, SayOver, SaysOver}
+use Rattle.check_judge.specs.Said.{AreEach, SayOver, SaysOver}
 
 -- the images of what is left of a list: that of its next item, and of what is left then
 pub image_next : {A B : Type 0} (f : A → B) (xs : List A) (i : ℕ) (x : A) → i < length xs → get_or xs i x ≡ x → drop i (map f xs) ≡ f x ∷ drop (i + 1) (map f xs)
@@ -51,21 +50,21 @@ module _ (text : List ℕ) (sections : List Section) (whole : ℕ) where
   says_long room (a ∷ airs) (s ∷ ss) [] says = absurd says
   says_long room (a ∷ airs) (s ∷ ss) (x ∷ xs) says = ap suc (says_long x.room airs ss xs says.1)
 
-  module _ {F : Type 0} (element : ℕ → F) where
-    -- with those that are said of the AIRs that are left, those so far are those of all
-    abbrev pub GoesOn : List Air → List TablesOf → ℕ → ℕ → List (Traced F) → Type 0
-    GoesOn airs ts i room so_far = (rest : List (Traced F)) → AreSaid element text sections room (drop i airs) (drop i ts) rest → AreSaid element text sections whole airs ts (so_far ++ rest)
+module _ {X : Type 0} (Is : Air → TablesOf → ℕ → Said → X → Type 0) (whole : ℕ) where
+  -- with those of the AIRs that are left, those so far are those of all
+  abbrev pub GoesOn : List Air → List TablesOf → ℕ → ℕ → List X → Type 0
+  GoesOn airs ts i room so_far = (rest : List X) → AreEach Is room (drop i airs) (drop i ts) rest → AreEach Is whole airs ts (so_far ++ rest)
 
-    pub goes_on : (airs : List Air) (ts : List TablesOf) (i room left : ℕ) (a : Air) (t : TablesOf) (so_far after : List (Traced F)) (x : Traced F)
-        → drop i airs ≡ a ∷ drop (i + 1) airs → drop i ts ≡ t ∷ drop (i + 1) ts → after ≡ so_far ++ x ∷ []
-        → (said : Said) × (left ≡ said.room) × IsSaid element text sections a t room said x → GoesOn airs ts i room so_far → GoesOn airs ts (i + 1) left after
-    goes_on airs ts i room left a t so_far after x first second more said before = λ rest next.
-        let later = subst (λ n. AreSaid element text sections n (drop (i + 1) airs) (drop (i + 1) ts) rest) said.1 next in
-        subst (AreSaid element text sections whole airs ts) (one_put_before so_far after rest x more)
-        (before (x ∷ rest) (subst₂ (λ bs us. AreSaid element text sections room bs us (x ∷ rest)) (sym first) (sym second) (said.0, said.2, later)))
+  pub goes_on : (airs : List Air) (ts : List TablesOf) (i room left : ℕ) (a : Air) (t : TablesOf) (so_far after : List X) (x : X)
+      → drop i airs ≡ a ∷ drop (i + 1) airs → drop i ts ≡ t ∷ drop (i + 1) ts → after ≡ so_far ++ x ∷ []
+      → (said : Said) × (left ≡ said.room) × Is a t room said x → GoesOn airs ts i room so_far → GoesOn airs ts (i + 1) left after
+  goes_on airs ts i room left a t so_far after x first second more said before = λ rest next.
+      let later = subst (λ n. AreEach Is n (drop (i + 1) airs) (drop (i + 1) ts) rest) said.1 next in
+      subst (AreEach Is whole airs ts) (one_put_before so_far after rest x more)
+      (before (x ∷ rest) (subst₂ (λ bs us. AreEach Is room bs us (x ∷ rest)) (sym first) (sym second) (said.0, said.2, later)))
 
-    -- once no AIR is left, those so far are those of all
-    pub all_gone : (airs : List Air) (ts : List TablesOf) (i room : ℕ) (so_far : List (Traced F)) → length airs ≤ i → length ts ≤ i → GoesOn airs ts i room so_far → AreSaid element text sections whole airs ts so_far
-    all_gone airs ts i room so_far none no_more before =
-        subst (AreSaid element text sections whole airs ts) (append-nil so_far)
-        (before [] (subst₂ (λ bs us. AreSaid element text sections room bs us []) (sym (drop_all i airs none)) (sym (drop_all i ts no_more)) tt))
+  -- once no AIR is left, those so far are those of all
+  pub all_gone : (airs : List Air) (ts : List TablesOf) (i room : ℕ) (so_far : List X) → length airs ≤ i → length ts ≤ i → GoesOn airs ts i room so_far → AreEach Is whole airs ts so_far
+  all_gone airs ts i room so_far none no_more before =
+      subst (AreEach Is whole airs ts) (append-nil so_far)
+      (before [] (subst₂ (λ bs us. AreEach Is room bs us []) (sym (drop_all i airs none)) (sym (drop_all i ts no_more)) tt))

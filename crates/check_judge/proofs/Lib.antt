@@ -1,6 +1,7 @@
 pub mod AirLaws
 pub mod BitLaws
 pub mod CauseLaws
+pub mod ConstraintLaws
 pub mod CutLaws
 pub mod FittingLaws
 pub mod JudgeLaws

@@ -19,9 +19,9 @@ use Rattle.language.specs.Items as items
 use Rattle.language.specs.Messages.{Message}
 use Rattle.language_meaning.specs.declared.name_fault.NameRefusal.{NameRefusal}
 use Rattle.language_meaning.specs.Faults.{◌>>=◌}
-use Rattle.language_meaning.specs.Lookups.{Addition, Column, Said, SentPart, addition, addition_at, column_alone, column_together, defined_by, defines, message_on, names_after, new_name, nothing, part_on, parts_on, publics_after, publishes, said_after, said_by_items, sends}
+use Rattle.language_meaning.specs.Lookups.{Addition, Column, Said, SentPart, addition, addition_at, column_alone, column_together, constrains, constraint_at, defined_by, defines, message_on, names_after, new_name, nothing, part_on, parts_on, publics_after, publishes, said_after, said_by_items, sends}
 use Rattle.language_meaning.specs.Room.{InRoom}
-use Rattle.language_meaning.specs.Scopes.{NamesInScope}
+use Rattle.language_meaning.specs.Scopes.{NamesInScope, boolean_of}
 
 -- a lookup has a message
 abbrev pub HasParts : Column → Type 0
@@ -32,6 +32,7 @@ abbrev AddsParts : Addition → Type 0
 AddsParts nothing = Unit {0}
 AddsParts (defines d) = Unit {0}
 AddsParts (publishes d n) = Unit {0}
+AddsParts (constrains c) = Unit {0}
 AddsParts (sends c) = HasParts c
 
 -- a step that gives something, and what it gives to the next
@@ -71,6 +72,8 @@ module _ (sections : List Section) where
   item_there names publics at (items.columns ss) room y e = given (λ z. AddsParts z.0) _ y tt e
   item_there names publics at (items.public s n) room y e = let (x, is, last) = first_step (new_name names s) _ y e in given (λ z. AddsParts z.0) _ y tt last
   item_there names publics at (items.letting s f) room y e = let (x, is, last) = first_step (defined_by names s f room) _ y e in given (λ z. AddsParts z.0) _ y tt last
+  item_there names publics at (items.asserted f) room y e = let (x, is, last) = first_step (constraint_at names at f room) _ y e in given (λ z. AddsParts z.0) _ y tt last
+  item_there names publics at (items.asserted_bool f) room y e = let (x, is, last) = first_step (constraint_at names at (boolean_of f) room) _ y e in given (λ z. AddsParts z.0) _ y tt last
   item_there names publics at (items.message m) room y e =
       let (c, there, last) = first_step (column_alone sections names m room) _ y e in
       given (λ z. AddsParts z.0) _ y (alone_there names m room c there) last
@@ -86,6 +89,7 @@ module _ (sections : List Section) where
   all_there nothing said here rest = rest
   all_there (defines d) said here rest = rest
   all_there (publishes d n) said here rest = rest
+  all_there (constrains c) said here rest = rest
   all_there (sends c) said here rest = (here, rest)
 
   -- each lookup that items say has a message

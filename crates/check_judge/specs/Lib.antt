@@ -1,6 +1,7 @@
 pub mod Airs
 pub mod Bits
 pub mod Causes
+pub mod Constraints
 pub mod Found
 pub mod Refusals
 pub mod Said

@@ -41,6 +41,13 @@ module _ (text : List ℕ) (sections : List Section) where
   SayOver room (a ∷ airs) (s ∷ ss) (x ∷ xs) = SaysOver a s.columns s.preprocessed room x × SayOver x.room airs ss xs
   SayOver room airs ss xs = ⊥
 
+-- Something is so of each AIR with its tables, with the room that is left to it and with what its items say; each AIR
+-- leaves room for those after it.
+abbrev pub AreEach : {X : Type 0} → (Air → TablesOf → ℕ → Said → X → Type 0) → ℕ → List Air → List TablesOf → List X → Type 0
+AreEach Is room [] [] [] = Unit {0}
+AreEach Is room (a ∷ airs) (t ∷ ts) (x ∷ xs) = (said : Said) × Is a t room said x × AreEach Is said.room airs ts xs
+AreEach Is room airs ts xs = ⊥
+
 -- a table has columns and rows, and each row is whole
 abbrev pub IsWhole : Numbers → Type 0
 IsWhole t = HasWholeRows (length t.0) (length t.1)
@@ -74,8 +81,6 @@ module _ {F : Type 0} (element : ℕ → F) where
       pub main_whole : IsWhole tables.main
       pub fit : FitTraces traced.traces traced.lookups
 
-    -- so it is of each AIR, with tables for each; each AIR leaves room for those after it
+    -- so it is of each AIR, with tables for each
     abbrev pub AreSaid : ℕ → List Air → List TablesOf → List (Traced F) → Type 0
-    AreSaid room [] [] [] = Unit {0}
-    AreSaid room (a ∷ airs) (t ∷ ts) (x ∷ xs) = (said : Said) × IsSaid a t room said x × AreSaid said.room airs ts xs
-    AreSaid room airs ts xs = ⊥
+    AreSaid = AreEach IsSaid

@@ -8,16 +8,19 @@ ghost use Rattle.language_meaning.specs.Tables.{tables_of};
 ghost use Rattle.check_judge.specs.Causes.{IsAirRefusal, IsElementRefusal, IsFirstElementRefusal, IsMiscounted, IsSayingRefusal, IsTableRefusal};
 ghost use Rattle.check_judge.specs.Said.{AreLookupsOf, AreSaid, AreWhole, IsSaid, SayOver, airs_of, trace_in};
 ghost use Rattle.check_judge.specs.Airs.{AreFittingAirs, IsFittingAir, over_traced};
+ghost use Rattle.check_judge.specs.Constraints.{AreConstrained, IsConstrained, over_constrained};
 ghost use Rattle.language_meaning.specs.Lookups.{Said, said_of};
 ghost use Rattle.language.specs.Batches.{air_of, section_of};
 ghost use Rattle.language.specs.Tables.{table_of};
 
 use crate::fault::JudgeFault;
+use air_expressions::SymbolicExpression;
 use field::Field;
 use field_words::elements_of;
 use language::{AirText, BatchText, SectionText, Table};
 use language_meaning::{
-    AirShape, AirTables, NamedAir, has_whole_rows, lookups_of, lookups_over, matrix_of,
+    AirShape, AirTables, NamedAir, constraints_over, has_whole_rows, lookups_of, lookups_over,
+    matrix_of,
 };
 use lookup::Lookups;
 use lookup::debug_util::fit_fault;
@@ -27,13 +30,14 @@ use std::alloc::{AllocError, Global};
 /// How many nodes all expressions of a text may have together.
 pub const MAX_NODES: usize = 1_048_576;
 
-/// An AIR over a field: its lookups and its traces.
+/// An AIR over a field: its lookups, its traces and its constraints.
 #[derive(Drop)]
 pub struct AirOver<F> {
     pub lookups: Lookups<F>,
     pub main: RowMajorMatrix<F>,
     pub preprocessed: Option<RowMajorMatrix<F>>,
     pub public_values: Vec<F>,
+    pub constraints: Vec<SymbolicExpression<F>>,
 }
 
 /// What the items of each AIR of a batch say, over the columns of these shapes, one for each AIR.
@@ -80,6 +84,9 @@ pub(crate) fn airs_over<F: Field>(
         AreSaid (of_nat F.ring) text.now sections 1048576 (airs_of sections)
         (map tables_of tables.now) (map over_traced v.items)) }
     ensures fit { IfOk result (λ v. AreFittingAirs v.items) }
+    ensures constrained { IfOk result (λ v. let sections = map section_of batch.now.sections.items in
+        AreConstrained (of_nat F.ring) text.now sections 1048576 (airs_of sections)
+        (map tables_of tables.now) (map over_constrained v.items)) }
     ensures refused { IfErr result (λ e. (e ≡ JudgeFault.Memory)
         ⊎ IsTableRefusal text.now (map section_of batch.now.sections.items) (of_nat F.ring)
         (map tables_of tables.now) e) }
@@ -135,6 +142,9 @@ fn air_over<F: Field>(
         × IsSaid (of_nat F.ring) text.now (map section_of batch.now.sections.items)
         (air_of air.now) (tables_of tables.now) room said (over_traced r.0)) }
     ensures fit { IfOk result (λ r. IsFittingAir r.0) }
+    ensures constrained { IfOk result (λ r. (said : Said) × (r.1 ≡ said.room)
+        × IsConstrained (of_nat F.ring) text.now (map section_of batch.now.sections.items)
+        (air_of air.now) (tables_of tables.now) room said (over_constrained r.0)) }
     ensures refused { IfErr result (λ e. (e ≡ JudgeFault.Memory)
         ⊎ IsAirRefusal text.now (map section_of batch.now.sections.items) (of_nat F.ring) index
         (air_of air.now) (tables_of tables.now) room e) }
@@ -151,6 +161,7 @@ fn air_over<F: Field>(
     let lookups = lookup_set(alloc, text, &named, index)?;
     let public_values = elements_of(alloc, &named.public_values)?;
     let main = matrix_of(alloc, main)?;
+    let constraints = constraints_over(alloc, &named.constraints)?;
     match fit_fault(&main, fixed.as_ref(), &public_values, lookups.as_slice()) {
         Some(fault) => Err(JudgeFault::Fit { air: index, fault }),
         None => Ok((
@@ -159,6 +170,7 @@ fn air_over<F: Field>(
                 main,
                 preprocessed: fixed,
                 public_values,
+                constraints,
             },
             named.room,
         )),

@@ -6,6 +6,7 @@ ghost use Rattle.field.specs.Ring.{of_nat};
 ghost use Rattle.lookup_debug.specs.Contributions.{Traced, traced_of};
 ghost use Rattle.language_meaning.specs.Tables.{tables_of};
 ghost use Rattle.check_judge.specs.Causes.{HasNoPlan, IsJudgeRefusal};
+ghost use Rattle.check_judge.specs.Constraints.{AllHold, AreChecked, AreConstrained, Constrained, over_constrained};
 ghost use Rattle.check_judge.specs.Found.{IsFound, IsPlanOf, sized_of};
 ghost use Rattle.check_judge.specs.Said.{AreSaid, airs_of};
 ghost use Rattle.check_judge.specs.Airs.{AreFittingAirs, over_traced};
@@ -14,6 +15,7 @@ ghost use Rattle.language_meaning.specs.Buses.{distinct_buses};
 ghost use Rattle.language.specs.Batches.{section_of};
 
 use crate::airs::{AirOver, airs_over};
+use crate::constraints::{all_hold, failures_of};
 use crate::fault::JudgeFault;
 use crate::plan::{plan_over, report_plan};
 use crate::report::Report;
@@ -36,7 +38,7 @@ pub struct PlannedAirs<F: Field> {
 /// most `limit` unbalanced tuples of each bus and as many places of each tuple, and with columns
 /// packed within `max_degree`.
 ///
-/// Its lookups are those of `lookups_of`, over the field; its traces are the tables.
+/// Its lookups and constraints are those of `lookups_of`, over the field; its traces are the tables.
 ///
 /// Refuses, in this order: a bus that is declared twice; another number of tables than of AIRs; then AIR by
 /// AIR a table without columns or rows or with a row that is not whole, the preprocessed one first, the
@@ -52,7 +54,7 @@ pub fn judge<F: SignedField, EF: ExtensionField<F>>(
     limit: usize,
     max_degree: usize,
 ) -> Result<Report<F>, JudgeFault>
-    ensures { let E = ⟦<EF as Over<F>>⟧.fields in
+    ensures found { let E = ⟦<EF as Over<F>>⟧.fields in
         let sections = map section_of batch.now.sections.items in
         let given = map tables_of tables.now in
         MatchResult result (λ report. (distinct_buses text.now sections ≡ Ok tt)
@@ -61,6 +63,11 @@ pub fn judge<F: SignedField, EF: ExtensionField<F>>(
         × IsFound E F.CHARACTERISTIC limit max_degree F.number traced report)
         (λ e. (e ≡ JudgeFault.Memory)
         ⊎ IsJudgeRefusal E F.CHARACTERISTIC text.now sections max_degree given e) }
+    ensures constraints { let sections = map section_of batch.now.sections.items in
+        IfOk result (λ report. (airs : List (Constrained (F)))
+        × AreConstrained (of_nat F.ring) text.now sections 1048576 (airs_of sections)
+        (map tables_of tables.now) airs
+        × AreChecked F.ring airs report.failures.items × (IsTrue report.hold ↔ AllHold F.ring airs)) }
 {
     let PlannedAirs { airs, plan } = planned_airs(alloc, text, batch, tables)?;
     let traces = traces_of(alloc, &airs)?;
@@ -70,11 +77,15 @@ pub fn judge<F: SignedField, EF: ExtensionField<F>>(
     let balanced = all_balance(&groups);
     let sizes = sizes_of(alloc, &airs)?;
     let plan = report_plan::<F, EF>(alloc, &sizes, &plan, max_degree)?;
+    let failures = failures_of(alloc, &airs)?;
+    let hold = all_hold(&failures);
     Ok(Report {
         plan,
         counts,
         groups,
         balanced,
+        failures,
+        hold,
     })
 }
 
@@ -90,6 +101,9 @@ pub fn planned_airs<F: Field>(
         × AreSaid (of_nat F.ring) text.now sections 1048576 (airs_of sections)
         (map tables_of tables.now) (map over_traced p.airs.items)) }
     ensures fit { IfOk result (λ p. AreFittingAirs p.airs.items) }
+    ensures constrained { let sections = map section_of batch.now.sections.items in
+        IfOk result (λ p. AreConstrained (of_nat F.ring) text.now sections 1048576 (airs_of sections)
+        (map tables_of tables.now) (map over_constrained p.airs.items)) }
     ensures planned { IfOk result (λ p. IsPlanOf F.CHARACTERISTIC
         (map (λ a. sized_of (over_traced a)) p.airs.items) (plan_of p.plan)) }
     ensures refused { IfErr result (λ e. (e ≡ JudgeFault.Memory)

@@ -1,5 +1,5 @@
-//! Batches that are written as text, judged: whether all messages balance, how heavy and how sound
-//! the batch is, and which tuples are sent too often.
+//! Batches that are written as text, judged: whether all messages balance and all constraints hold, how heavy
+//! and how sound the batch is, which tuples are sent too often, and where constraints fail.
 //!
 //! `judge` takes a batch of `language` and the tables of its AIRs over one field, and calls the
 //! lookup library over the lookups and traces that they say. `judge_plan` needs no tables, but how
@@ -8,6 +8,7 @@
 
 mod airs;
 mod bits;
+mod constraints;
 mod fault;
 mod judgement;
 mod plan;
@@ -17,6 +18,7 @@ mod sizes;
 
 pub use airs::{AirOver, MAX_NODES, airs_named, airs_of, sets_over};
 pub use bits::{Deceiving, bits_of};
+pub use constraints::ConstraintFailure;
 pub use fault::JudgeFault;
 pub use judgement::{PlannedAirs, judge, planned_airs, traces_of};
 pub use plan::judge_plan;

@@ -1,7 +1,8 @@
 //! What is found of a batch.
-ghost use Rattle.std.specs.Prelude.{◌≡◌};
+ghost use Rattle.std.specs.Prelude.{◌≡◌, ◌&&◌};
 
 use crate::bits::Deceiving;
+use crate::constraints::ConstraintFailure;
 use batch::{HeightSoundness, SoundnessCount};
 use lookup::debug_util::BusGroup;
 
@@ -62,9 +63,20 @@ pub struct Report<F> {
     pub groups: Vec<BusGroup<F>>,
     /// Whether all messages balance.
     pub balanced: bool,
+    /// For each AIR, in their order, where a constraint fails, if one does.
+    pub failures: Vec<Option<ConstraintFailure<F>>>,
+    /// Whether all constraints are zero on all rows.
+    pub hold: bool,
 }
 
 impl<F> Report<F> {
+    /// Whether all messages balance and all constraints hold.
+    pub fn is_good(&self) -> bool
+        ensures { result ≡ (self.now.balanced && self.now.hold) }
+    {
+        self.balanced && self.hold
+    }
+
     /// At how few challenges the batch is accepted over these traces, if it does not balance.
     pub fn for_these_traces(&self) -> Deceiving {
         Deceiving {

@@ -16,7 +16,9 @@ abbrev pub refusal_text : RunRefusal → List ℕ
 refusal_text Memory = codes "error: out of memory\n"
 refusal_text (Told lines) = lines.items
 
--- the last line of a report: whether all balances
-abbrev pub verdict_line : Bool → List ℕ
-verdict_line true = codes "\nBALANCED: every tuple of every bus and local lookup cancels\n"
-verdict_line false = codes "\nNOT BALANCED\n"
+-- the last line of a report: whether all messages balance; and that a constraint fails, if one does
+abbrev pub verdict_line : Bool → Bool → List ℕ
+verdict_line true true = codes "\nBALANCED: every tuple of every bus and local lookup cancels\n"
+verdict_line false true = codes "\nNOT BALANCED\n"
+verdict_line true false = codes "\nNOT SATISFIED: all messages balance, but a constraint fails\n"
+verdict_line false false = codes "\nNOT BALANCED, and a constraint fails\n"

@@ -7,6 +7,7 @@
 
 mod bits;
 mod columns;
+mod constraints;
 mod given;
 mod hint;
 mod mark;
@@ -28,4 +29,4 @@ pub use sections::{push_airs, push_plan, push_report};
 pub use show::push_lookups;
 pub use told::{Told, air_name};
 pub use unbalanced::magnitude;
-pub use words::{lookup_at, trace_file};
+pub use words::{Lines, is_constraint, lookup_at, trace_file};

@@ -4,6 +4,7 @@ ghost use Rattle.check_report.specs.Told.{verdict_line};
 
 use crate::bits::push_bits;
 use crate::columns::push_columns;
+use crate::constraints::{push_constraint_counts, push_constraints};
 use crate::page::{Page, head, number_cell, numbers_cell, shown_cell, word_cell};
 use crate::told::{Told, air_name, group_cell};
 use crate::unbalanced::push_unbalanced;
@@ -21,17 +22,31 @@ pub fn push_report<F: TableField>(
     report: &Report<F>,
 ) -> Result<(), AllocError>
     ensures { OnOk result ((front : List ℕ)
-        × (page.new.bytes.items ≡ front ++ verdict_line report.now.balanced)) }
+        × (page.new.bytes.items ≡ front ++ verdict_line report.now.balanced report.now.hold)) }
 {
     push_sizes(page, told, &report.plan.airs)?;
     push_heights(page, &report.plan)?;
     push_buses(page, told, &report.groups)?;
     push_unbalanced(page, told, &report.groups)?;
     push_soundness(page, told, report)?;
-    if report.balanced {
-        page.word("\nBALANCED: every tuple of every bus and local lookup cancels\n")
-    } else {
-        page.word("\nNOT BALANCED\n")
+    push_constraints(page, told, report)?;
+    push_verdict(page, report.balanced, report.hold)
+}
+
+/// Appends whether all messages balance; and that a constraint fails, if one does.
+fn push_verdict(page: &mut Page, balanced: bool, hold: bool) -> Result<(), AllocError>
+    ensures { OnOk result (page.new.bytes.items
+        ≡ page.old.bytes.items ++ verdict_line balanced hold) }
+{
+    match (balanced, hold) {
+        (true, true) => {
+            page.word("\nBALANCED: every tuple of every bus and local lookup cancels\n")
+        }
+        (false, true) => page.word("\nNOT BALANCED\n"),
+        (true, false) => page.word(
+            "\nNOT SATISFIED: all messages balance, but a constraint fails\n",
+        ),
+        (false, false) => page.word("\nNOT BALANCED, and a constraint fails\n"),
     }
 }
 
@@ -40,7 +55,8 @@ pub fn push_plan(page: &mut Page, told: Told<'_>, report: &PlanReport) -> Result
     push_sizes(page, told, &report.airs)?;
     push_heights(page, report)?;
     page.word("\nSOUNDNESS\n")?;
-    push_all_traces(page, told, report)
+    push_all_traces(page, told, report)?;
+    push_constraint_counts(page, told)
 }
 
 /// Appends a line for each AIR, and one for each packed column.

@@ -24,7 +24,7 @@ enum Binds {
     AsSign,
 }
 
-/// Appends the lookups of each AIR: a line for each message.
+/// Appends the lookups of each AIR, a line for each message, and its constraints.
 pub fn push_lookups(
     page: &mut Page,
     text: &[u8],
@@ -44,7 +44,7 @@ pub fn push_lookups(
     Ok(())
 }
 
-/// Appends the lookups of an AIR.
+/// Appends the lookups of an AIR, and its constraints if it has any.
 fn push_air(
     page: &mut Page,
     called: Called<'_>,
@@ -69,7 +69,31 @@ fn push_air(
             lines.push(part_line(page, called, index, lookup, part, line)?)?;
         }
     }
-    page.table(&lines, &[true, true, false, false, false, false, true])
+    page.table(&lines, &[true, true, false, false, false, false, true])?;
+    push_constraints(page, called, named, text_lines)
+}
+
+/// Appends a line for each constraint of an AIR, if it has any.
+fn push_constraints(
+    page: &mut Page,
+    called: Called<'_>,
+    named: &NamedAir,
+    text_lines: &mut Lines<'_>,
+) -> Result<(), AllocError> {
+    if named.constraints.is_empty() {
+        return Ok(());
+    }
+    let alloc = page.alloc();
+    let mut lines = Vec::new(alloc);
+    lines.push(head(alloc, &["constraint", "line", "zero"])?)?;
+    for (index, constraint) in named.constraints.iter().enumerate() {
+        let mut cells = Vec::new(alloc);
+        cells.push(number_cell(alloc, index as u128)?)?;
+        cells.push(numbers_cell(alloc, &[text_lines.line_of(constraint.at)])?)?;
+        cells.push(value_cell(page, called, &constraint.value)?)?;
+        lines.push(cells)?;
+    }
+    page.table(&lines, &[true, true, false])
 }
 
 /// The cells of a message: the number of its lookup, its line, its bus, its tuple, how often it
@@ -130,25 +154,25 @@ fn push_value(
 ) -> Result<(), AllocError> {
     match value {
         Value::Sum(left, right) => {
-            page.word(opening(around > Binds::Loosely))?;
+            page.word(parenthesis("(", around > Binds::Loosely))?;
             push_value(page, called, left, Binds::Loosely)?;
             page.word(" + ")?;
             push_value(page, called, right, Binds::AsProduct)?;
-            page.word(closing(around > Binds::Loosely))
+            page.word(parenthesis(")", around > Binds::Loosely))
         }
         Value::Difference(left, right) => {
-            page.word(opening(around > Binds::Loosely))?;
+            page.word(parenthesis("(", around > Binds::Loosely))?;
             push_value(page, called, left, Binds::Loosely)?;
             page.word(" - ")?;
             push_value(page, called, right, Binds::AsProduct)?;
-            page.word(closing(around > Binds::Loosely))
+            page.word(parenthesis(")", around > Binds::Loosely))
         }
         Value::Product(left, right) => {
-            page.word(opening(around > Binds::AsProduct))?;
+            page.word(parenthesis("(", around > Binds::AsProduct))?;
             push_value(page, called, left, Binds::AsProduct)?;
             page.word(" * ")?;
             push_value(page, called, right, Binds::AsSign)?;
-            page.word(closing(around > Binds::AsProduct))
+            page.word(parenthesis(")", around > Binds::AsProduct))
         }
         Value::Negative(inner) => {
             page.word("-")?;
@@ -176,12 +200,8 @@ fn push_leaf(page: &mut Page, called: Called<'_>, leaf: &Value) -> Result<(), Al
     }
 }
 
-fn opening(is_closed: bool) -> &'static str {
-    if is_closed { "(" } else { "" }
-}
-
-fn closing(is_closed: bool) -> &'static str {
-    if is_closed { ")" } else { "" }
+fn parenthesis(sign: &'static str, is_closed: bool) -> &'static str {
+    if is_closed { sign } else { "" }
 }
 
 /// Appends the name of a column, in the current row or the next one.

@@ -30,7 +30,7 @@ pub fn air_name(told: Told<'_>, air: usize) -> &[u8] {
     }
 }
 
-/// Appends how a lookup is told: the word with which its item begins, and its line.
+/// Appends how a lookup or a constraint is printed: the word with which its item begins, and its line.
 pub(crate) fn push_lookup(page: &mut Page, item: &ItemText, line: usize) -> Result<(), AllocError> {
     page.word(first_word(item))?;
     page.word(" of line ")?;

@@ -4,14 +4,15 @@ use language_meaning::bytes_of;
 
 /// The lines of a text, found one after the other.
 #[derive(Drop)]
-pub(crate) struct Lines<'a> {
+pub struct Lines<'a> {
     text: &'a [u8],
     at: usize,
     line: usize,
 }
 
 impl<'a> Lines<'a> {
-    pub(crate) fn of(text: &'a [u8]) -> Lines<'a> {
+    /// The lines of a text.
+    pub fn of(text: &'a [u8]) -> Lines<'a> {
         Lines {
             text,
             at: 0,
@@ -20,7 +21,7 @@ impl<'a> Lines<'a> {
     }
 
     /// The line of a byte. Bytes that are asked for in order take one pass over the text.
-    pub(crate) fn line_of(&mut self, at: usize) -> usize {
+    pub fn line_of(&mut self, at: usize) -> usize {
         if at < self.at {
             self.at = 0;
             self.line = 1;
@@ -80,7 +81,23 @@ pub(crate) fn is_lookup(item: &ItemText) -> bool {
     )
 }
 
-/// The word with which an item with a lookup begins.
+/// How many constraints some AIRs have.
+pub(crate) fn constraint_count(airs: &[&AirText]) -> usize {
+    let mut count = 0usize;
+    for air in airs {
+        let items = air.items.iter();
+        let found = items.filter(|item| is_constraint(&item.item)).count();
+        count = count.saturating_add(found);
+    }
+    count
+}
+
+/// Whether an item has a constraint.
+pub fn is_constraint(item: &ItemText) -> bool {
+    matches!(item, ItemText::Assert(_) | ItemText::AssertBool(_))
+}
+
+/// The word with which an item with a lookup or a constraint begins.
 pub(crate) fn first_word(item: &ItemText) -> &'static str {
     match item {
         ItemText::Message(message) => match message.verb {
@@ -90,6 +107,7 @@ pub(crate) fn first_word(item: &ItemText) -> &'static str {
             Verb::Receive => "receive",
         },
         ItemText::Together(_) => "together",
+        ItemText::Assert(_) | ItemText::AssertBool(_) => "assert",
         _ => "exclusive",
     }
 }

@@ -1,3 +1,4 @@
 pub mod OpenedLaws
 pub mod RunRefusalLaws
 pub mod TellLaws
+pub mod VerdictLaws

@@ -1,5 +1,5 @@
 -- What a run answers, writes and ends with.
-use Rattle.std.specs.Prelude.{◌≡◌, ◌⊎◌, ◌↔◌, ◌++◌, ◌-◌, ◌*◌, ℕ, Bool, true, false, IsTrue, List, Option, None, Some, Result, Ok, MatchResult, codes, map, max}
+use Rattle.std.specs.Prelude.{◌≡◌, ◌⊎◌, ◌↔◌, ◌&&◌, ◌++◌, ◌-◌, ◌*◌, ℕ, Bool, true, false, IsTrue, List, Option, None, Some, Result, Ok, MatchResult, codes, map, max}
 use Rattle.std.specs.List.{AllZip}
 use Rattle.field.specs.Ring.{of_nat}
 use Rattle.field_list.specs.Offers.{HoldsOf, Offers, challenges_in}
@@ -32,6 +32,7 @@ use Rattle.batch.specs.Traces.{view_of}
 use Rattle.batch.specs.declared.trace.BatchTrace.{BatchTrace}
 use Rattle.language_witness.specs.Lines.{IsTextOf, witness_lines}
 use Rattle.check_judge.specs.Bits.{MeetsTarget, alphas_of}
+use Rattle.check_judge.specs.Constraints.{AllHold, AreChecked, AreConstrained, Constrained}
 use Rattle.check_judge.specs.Found.{IsFound, IsPlanFound, IsPlanOf, sized_of, sized_over}
 use Rattle.check_judge.specs.Said.{AreLookupsOf, AreSaid, SayOver, airs_of}
 use Rattle.check_report.specs.Told.{refusal_text, verdict_line}
@@ -71,17 +72,21 @@ module _ {F K : Type 0} (fields : Fields F K) (text : List ℕ) (files : List Fi
     pub tables_are : all_tables text files fields.characteristic sections ≡ Ok tables
     pub said : AreSaid (of_nat fields.extension.base) text sections 1048576 (airs_of sections) tables traced
 
-  -- The answer to `check`: there is a report of the lookups and the traces that the files say, with as many tuples as
-  -- are told, or 64 if those are fewer; and the answer is yes
-  -- if they balance, and no if they do not, as its last line says.
+  -- The answer to `check`: there is a report of the lookups, the traces and the constraints that the files say, with as
+  -- many tuples as are asked for, or 64 if those are fewer; and the answer is yes if all messages balance and all
+  -- constraints hold, and no otherwise. Its last line shows which of the two are so.
   pub record IsVerdict (number : F → ℕ) (limit max_degree : ℕ) (json : Bool) (answer : Answer) : Type 0 where
     pub traced : List (Traced F)
     pub batch : IsReadBatch traced
     pub report : Report F
     pub found : IsFound fields.extension fields.characteristic (max limit 64) max_degree number traced report
-    pub verdict : answer.yes ≡ report.balanced
-    pub balanced : IsTrue answer.yes ↔ AllBalance fields.extension.base fields.extension.base_eq traced
-    pub told : EndsWith json (verdict_line answer.yes) answer.text.items
+    pub airs : List (Constrained F)
+    pub constrained : AreConstrained (of_nat fields.extension.base) text batch.sections 1048576 (airs_of batch.sections) batch.tables airs
+    pub checked : AreChecked fields.extension.base airs report.failures.items
+    pub hold : IsTrue report.hold ↔ AllHold fields.extension.base airs
+    pub verdict : answer.yes ≡ (report.balanced && report.hold)
+    pub good : IsTrue answer.yes ↔ (AllBalance fields.extension.base fields.extension.base_eq traced × AllHold fields.extension.base airs)
+    pub told : EndsWith json (verdict_line report.balanced report.hold) answer.text.items
 
   -- The answer to `plan` and to `pack`: the text and the sizes of its AIRs can be read, no bus is declared twice,
   -- and there is a report of a plan of the lookups that the text says; and the answer is yes if as many bits are left

@@ -66,7 +66,7 @@ pub(crate) fn answer_over<F: TableField, EF: Challenge<F>>(
     }
 }
 
-/// `check`: whether all balances, over a field.
+/// `check`: whether all balances and all constraints hold, over a field.
 fn check<F: TableField, EF: Challenge<F>>(
     alloc: Global,
     given: Given<'_>,
@@ -103,7 +103,7 @@ fn check<F: TableField, EF: Challenge<F>>(
             }
             Ok(Answer {
                 text: page.bytes,
-                yes: report.balanced,
+                yes: report.is_good(),
             })
         }
         Err(fault) => Err(RunRefusal::of_judge(alloc, given, &batch, fault)?),
@@ -184,7 +184,7 @@ fn show<F: TableField, EF: Challenge<F>>(
     }
     match sets_over::<F>(alloc, given.text, &named) {
         Ok(sets) => {
-            push_lookups_json(&mut page, given.text, &batch, &sets)?;
+            push_lookups_json(&mut page, given.text, &batch, &named, &sets)?;
             Ok(Answer::of_page(page))
         }
         Err(fault) => Err(RunRefusal::of_judge(alloc, given, &batch, fault)?),

@@ -49,9 +49,9 @@ pub struct Inputs<'a> {
 /// whole unless a write fails; that an answer ends with status 2 only where a write fails; and that
 /// `accept` refuses no text of a witness.
 ///
-/// The answer to `check` is whether all messages balance, to `plan` and `bits` whether as many bits are
-/// left as are wanted, to `accept` whether the witness is accepted, and to `any` whether any is; to the
-/// other commands it is yes.
+/// The answer to `check` is whether all messages balance and all constraints hold, to `plan` and `bits`
+/// whether as many bits are left as are wanted, to `accept` whether the witness is accepted, and to `any`
+/// whether any is; to the other commands it is yes.
 pub fn run<L: FieldList, W: Write, E: Write>(
     alloc: Global,
     said: Result<Asked<'_>, WordsRefusal>,

@@ -10,6 +10,7 @@
 
 mod batches;
 mod builders;
+mod constraints;
 mod depths;
 mod evaluations;
 mod fields;
@@ -55,6 +56,7 @@ fn group_of_rest(alloc: Global, name: &str, out: &mut Out) {
         "batch" => batches::batch(alloc, out),
         "plans" => plans::batch_plans(alloc, out),
         "memory" => plans::memory(alloc, out),
+        "constraints" => constraints::constraints(alloc, out),
         _ => out.close(),
     }
 }

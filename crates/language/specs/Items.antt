@@ -35,6 +35,8 @@ pub data Item : Type 0 where
   columns : List Span → Item
   public : Span → ℕ → Item
   letting : Span → Formula → Item
+  asserted : Formula → Item
+  asserted_bool : Formula → Item
   message : Message → Item
   together : List Part → Item
   exclusive : List Part → Item
@@ -48,6 +50,8 @@ item_of (texts.Height n) = height n
 item_of (texts.Columns v) = columns v.items
 item_of (texts.Public s n) = public s n
 item_of (texts.Let s t) = letting s (formula_of t)
+item_of (texts.Assert t) = asserted (formula_of t)
+item_of (texts.AssertBool t) = asserted_bool (formula_of t)
 item_of (texts.Message m) = message (message_of m)
 item_of (texts.Together v) = together (map group_part_of v.items)
 item_of (texts.Exclusive v) = exclusive (map group_part_of v.items)
@@ -124,6 +128,15 @@ let_at ts = do
   value ← formula_at us
   Ok (letting name.0 value.0, value.1)
 
+-- an expression that is zero on every row, or behind `bool` one that is 0 or 1
+abbrev pub assertion_in : Word → List Token → Read Item
+assertion_in words.Bool ts = formula_at (drop 1 ts) >>= λ x. Ok (asserted_bool x.0, x.1)
+assertion_in w ts = formula_at ts >>= λ x. Ok (asserted x.0, x.1)
+
+-- what stands behind `assert`
+unfoldable pub assertion_at : List Token → Read Item
+assertion_at ts = assertion_in (word_at ts) ts
+
 -- an item that is no message, by its first word
 unfoldable pub declaration_in : Word → List Token → Read Item
 declaration_in words.Trace ts = quoted_at (drop 1 ts) >>= λ x. Ok (trace x.0, x.1)
@@ -133,6 +146,7 @@ declaration_in words.Height ts = number_at (drop 1 ts) >>= λ x. Ok (height x.0,
 declaration_in words.Columns ts = rest_after_sign 40 (drop 1 ts) >>= λ us. names_at us >>= λ x. Ok (columns x.0, x.1)
 declaration_in words.Public ts = public_at (drop 1 ts)
 declaration_in words.Let ts = let_at (drop 1 ts)
+declaration_in words.Assert ts = assertion_at (drop 1 ts)
 declaration_in w ts = fault_at_front whys.Item ts
 
 -- a message as an item

@@ -73,6 +73,8 @@ word_of name =
     else if bytes_eq name (codes "columns") then words.Columns
     else if bytes_eq name (codes "public") then words.Public
     else if bytes_eq name (codes "let") then words.Let
+    else if bytes_eq name (codes "assert") then words.Assert
+    else if bytes_eq name (codes "bool") then words.Bool
     else if bytes_eq name (codes "next") then words.Next
     else message_word name
 

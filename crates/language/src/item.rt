@@ -2,7 +2,7 @@
 ghost use Rattle.std.specs.Prelude.{◌≡◌, ◌∷◌, [], length, map, option_map};
 ghost use Rattle.language.specs.Faults.{IsTextResultOrMemory};
 ghost use Rattle.language.specs.Formulas.{formula_of};
-ghost use Rattle.language.specs.Items.{declaration_in, flag_at, item_at, item_in, item_of, let_at, more_name, more_part, names_at, part_at, group_part_of, parts_at, placed_of, public_at, when_needed};
+ghost use Rattle.language.specs.Items.{declaration_in, flag_at, assertion_at, item_at, item_in, item_of, let_at, more_name, more_part, names_at, part_at, group_part_of, parts_at, placed_of, public_at, when_needed};
 ghost use Rattle.language.specs.Lists.{many, with_front};
 
 use crate::fault::{Fault, TextFault, Why};
@@ -36,6 +36,10 @@ pub enum ItemText {
     Public(Span, u64),
     /// An expression, by its name.
     Let(Span, Tree),
+    /// An expression that is zero on every row.
+    Assert(Tree),
+    /// An expression that is 0 or 1 on every row.
+    AssertBool(Tree),
     Message(MessageText),
     /// Messages in one column, all of which count.
     Together(Vec<PartText>),
@@ -117,6 +121,7 @@ fn read_declaration(
         }
         Word::Public => read_public(rest(tokens)),
         Word::Let => read_let(alloc, rest(tokens)),
+        Word::Assert => read_assertion(alloc, rest(tokens)),
         _ => Err(TextFault::Fault(Fault {
             at: place(tokens),
             why: Why::Item,
@@ -142,6 +147,23 @@ fn read_let(alloc: Global, tokens: &[Token]) -> Result<(ItemText, &[Token]), Tex
     let (name, after) = name(tokens, Why::Name)?;
     let (value, after) = read_formula(alloc, need(after, b'=')?)?;
     Ok((ItemText::Let(name, value), after))
+}
+
+/// An expression that is zero on every row, or behind `bool` one that is 0 or 1.
+#[tactic(auto, unfolding(crate::specs::Items::assertion_at))]
+fn read_assertion(alloc: Global, tokens: &[Token]) -> Result<(ItemText, &[Token]), TextFault>
+    ensures { IsTextResultOrMemory (λ x. (item_of x.0, x.1.now)) result (assertion_at tokens.now) }
+{
+    match word(tokens) {
+        Word::Bool => {
+            let (value, after) = read_formula(alloc, rest(tokens))?;
+            Ok((ItemText::AssertBool(value), after))
+        }
+        _ => {
+            let (value, after) = read_formula(alloc, tokens)?;
+            Ok((ItemText::Assert(value), after))
+        }
+    }
 }
 
 /// Names between commas, and what stands after the parenthesis that closes them.

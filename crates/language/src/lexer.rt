@@ -280,6 +280,10 @@ fn word(bytes: &[u8]) -> Word
         Word::Public
     } else if is(bytes, "let") {
         Word::Let
+    } else if is(bytes, "assert") {
+        Word::Assert
+    } else if is(bytes, "bool") {
+        Word::Bool
     } else if is(bytes, "next") {
         Word::Next
     } else {

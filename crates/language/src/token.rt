@@ -20,6 +20,8 @@ pub enum Word {
     Columns,
     Public,
     Let,
+    Assert,
+    Bool,
     Query,
     Provide,
     Send,

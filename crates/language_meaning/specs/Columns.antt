@@ -6,7 +6,7 @@ use Rattle.air_expressions.specs.Faults.{HasFirstFault}
 use Rattle.air_expressions.specs.Tree.{Tree}
 use Rattle.lookup_model.specs.Outline.{Outline}
 use Rattle.language.specs.declared.token.Span.{Span}
-use Rattle.language_meaning.specs.Lookups.{Column, SentPart}
+use Rattle.language_meaning.specs.Lookups.{Column, Constraint, SentPart}
 use Rattle.language_meaning.specs.Scopes.{bytes_in}
 use Rattle.language_meaning.specs.Values.{Meant, number}
 use Rattle.language_meaning.specs.declared.element_fault.ElementRefusal.{ElementRefusal}
@@ -53,6 +53,10 @@ module _ {F : Type 0} (element : ℕ → F) where
   abbrev pub outlines_in : List ℕ → ℕ → List Column → List (Outline (Tree F))
   outlines_in text column [] = []
   outlines_in text column (c ∷ cs) = outline_in text column c ∷ outlines_in text (column + 1) cs
+
+  -- the trees of constraints
+  abbrev pub constraints_in : List Constraint → List (Tree F)
+  constraints_in constraints = map (λ c. tree_in element c.value) constraints
 
 -- the name of the bus is UTF-8
 abbrev pub IsNamed : List ℕ → Option Span → Type 0

@@ -11,13 +11,14 @@ use Rattle.language_meaning.specs.declared.named_air.Added.TheVariants as added
 use Rattle.language_meaning.specs.declared.named_air.NamedAir.{NamedAir}
 use Rattle.language_meaning.specs.declared.named_air.NamedLookup.{NamedLookup}
 use Rattle.language_meaning.specs.declared.named_air.NamedPart.{NamedPart}
+use Rattle.language_meaning.specs.declared.constraint.NamedConstraint.{NamedConstraint}
 use Rattle.language_meaning.specs.declared.name_fault.NameRefusal.{NameRefusal}
 use Rattle.language_meaning.specs.declared.name_fault.NameWhy.TheVariants.{EmptyGroup, LookupsFile, OtherBus, RepeatedDefinition}
 use Rattle.language_meaning.specs.Buses.{bus_checked, buses_of, same_bus}
 use Rattle.language_meaning.specs.Faults.{◌>>=◌, refusal_of_name}
 use Rattle.language_meaning.specs.Messages.{Sent, meant_message, sent_of}
 use Rattle.language_meaning.specs.Room.{InRoom}
-use Rattle.language_meaning.specs.Scopes.{NamesInScope, bytes_in, defined_of, definition, meaning, with_definition}
+use Rattle.language_meaning.specs.Scopes.{NamesInScope, boolean_of, bytes_in, defined_of, definition, meaning, with_definition}
 use Rattle.language_meaning.specs.Values.{Meant, meant_of}
 use Rattle.language_meaning.specs.Values as values
 
@@ -40,6 +41,15 @@ pub record Column : Type 0 where
 -- a lookup, without where it lies in memory
 abbrev pub column_of : NamedLookup → Column
 column_of l = record { at = l.at; bus = l.bus; exclusive = l.exclusive; parts = map sent_part_of l.parts.items }
+
+-- an expression that is zero on every row, and where its item begins
+pub record Constraint : Type 0 where
+  pub at : ℕ
+  pub value : Meant
+
+-- a constraint, without where it lies in memory
+abbrev pub constraint_of : NamedConstraint → Constraint
+constraint_of c = record { at = c.at; value = meant_of c.value }
 
 -- a name that has no definition yet
 abbrev pub new_name : NamesInScope → Span → Result (Unit {0}) NameRefusal
@@ -84,11 +94,12 @@ unfoldable pub column_together : List Section → NamesInScope → ℕ → Bool 
 column_together sections names at exclusive [] room = refusal_of_name EmptyGroup at
 column_together sections names at exclusive (p ∷ ps) room = parts_on sections names p.message.bus (p ∷ ps) room >>= λ xs. Ok (record { at = at; bus = p.message.bus; exclusive = exclusive; parts = xs.0 }, xs.1)
 
--- what an item adds: nothing, a definition, a public value with its definition, or a lookup
+-- what an item adds: nothing, a definition, a public value with its definition, a constraint, or a lookup
 pub data Addition : Type 0 where
   nothing : Addition
   defines : List ℕ × Meant → Addition
   publishes : List ℕ × Meant → ℕ → Addition
+  constrains : Constraint → Addition
   sends : Column → Addition
 
 -- what an item adds, without where it lies in memory
@@ -96,7 +107,12 @@ abbrev pub addition_of : Added → Addition
 addition_of added.Nothing = nothing
 addition_of (added.Definition d) = defines (defined_of d)
 addition_of (added.Public d n) = publishes (defined_of d) n
+addition_of (added.Constraint c) = constrains (constraint_of c)
 addition_of (added.Lookup l) = sends (column_of l)
+
+-- a constraint that begins here, with this formula
+abbrev pub constraint_at : NamesInScope → ℕ → Formula → ℕ → Result (InRoom Constraint) NameRefusal
+constraint_at names at f room = meaning names f room >>= λ x. Ok (record { at = at; value = x.0 }, x.1)
 
 -- what an item that begins here adds, after so many public values
 unfoldable pub addition_at : List Section → NamesInScope → ℕ → ℕ → Item → ℕ → Result (InRoom Addition) NameRefusal
@@ -107,6 +123,8 @@ addition_at sections names publics at (items.height n) room = Ok (nothing, room)
 addition_at sections names publics at (items.columns ss) room = Ok (nothing, room)
 addition_at sections names publics at (items.public s n) room = new_name names s >>= λ _. Ok (publishes (bytes_in s names.text, values.public publics) n, room)
 addition_at sections names publics at (items.letting s f) room = defined_by names s f room >>= λ d. Ok (defines d.0, d.1)
+addition_at sections names publics at (items.asserted f) room = constraint_at names at f room >>= λ c. Ok (constrains c.0, c.1)
+addition_at sections names publics at (items.asserted_bool f) room = constraint_at names at (boolean_of f) room >>= λ c. Ok (constrains c.0, c.1)
 addition_at sections names publics at (items.message m) room = column_alone sections names m room >>= λ c. Ok (sends c.0, c.1)
 addition_at sections names publics at (items.together ps) room = column_together sections names at false ps room >>= λ c. Ok (sends c.0, c.1)
 addition_at sections names publics at (items.exclusive ps) room = column_together sections names at true ps room >>= λ c. Ok (sends c.0, c.1)
@@ -115,25 +133,27 @@ addition_at sections names publics at (items.exclusive ps) room = column_togethe
 abbrev pub addition : List Section → NamesInScope → ℕ → Placed → ℕ → Result (InRoom Addition) NameRefusal
 addition sections names publics p room = addition_at sections names publics p.at p.item room
 
--- the lookups and the public values of an AIR, and the room that its expressions leave
+-- the lookups, the public values and the constraints of an AIR, and the room that its expressions leave
 pub record Said : Type 0 where
   pub columns : List Column
   pub public_values : List ℕ
+  pub constraints : List Constraint
   pub room : ℕ
 
 -- what an AIR says, without where it lies in memory
 abbrev pub said_of : NamedAir → Said
-said_of a = record { columns = map column_of a.lookups.items; public_values = a.public_values.items; room = a.room }
+said_of a = record { columns = map column_of a.lookups.items; public_values = a.public_values.items; constraints = map constraint_of a.constraints.items; room = a.room }
 
 -- nothing said, and so much room left
 abbrev pub silence : ℕ → Said
-silence room = record { columns = []; public_values = []; room = room }
+silence room = record { columns = []; public_values = []; constraints = []; room = room }
 
 -- what is said with an addition before it
 abbrev pub said_after : Addition → Said → Said
 said_after nothing said = said
 said_after (defines d) said = said
 said_after (publishes d n) said = record said { public_values = n ∷ said.public_values }
+said_after (constrains c) said = record said { constraints = c ∷ said.constraints }
 said_after (sends c) said = record said { columns = c ∷ said.columns }
 
 -- names after an addition
@@ -141,6 +161,7 @@ abbrev pub names_after : Addition → NamesInScope → NamesInScope
 names_after nothing names = names
 names_after (defines d) names = with_definition names d
 names_after (publishes d n) names = with_definition names d
+names_after (constrains c) names = names
 names_after (sends c) names = names
 
 -- how many public values there are after an addition

@@ -128,6 +128,10 @@ meaning_in names (power f n) room = meaning_in names f room >>= λ x. value_in_r
 abbrev pub value_within_layers : ℕ → InRoom Meant → Result (InRoom Meant) NameRefusal
 value_within_layers at x = if nat_le (layers_of x.0) 1024 then Ok x else refusal_of_name DeepExpression at
 
+-- a formula times itself less one, where the number stands at the front of the formula
+abbrev pub boolean_of : Formula → Formula
+boolean_of f = product f (difference f (number 1 (record { start = front_of f; end = front_of f })))
+
 -- what a formula means, in at most 1,024 layers and in room for so many nodes
 abbrev pub meaning : NamesInScope → Formula → ℕ → Result (InRoom Meant) NameRefusal
 meaning names f room = meaning_in names f room >>= λ x. value_within_layers (front_of f) x

@@ -8,6 +8,7 @@
 #![tactic(auto)]
 
 mod bus;
+mod constraint;
 mod element_fault;
 mod expression;
 mod files;
@@ -25,6 +26,7 @@ mod traces;
 mod value;
 
 pub use bus::check_buses;
+pub use constraint::{NamedConstraint, constraints_over};
 pub use element_fault::{ElementFault, ElementRefusal, ElementWhy};
 pub use expression::expression_of;
 pub use files::{NamedFile, content_of, files_of};
@@ -33,7 +35,7 @@ pub use message::{NamedMessage, named_message};
 pub use name_fault::{NameFault, NameRefusal, NameWhy};
 pub use named_air::{NamedAir, NamedLookup, NamedPart, lookups_of};
 pub use path::path_beside;
-pub use scope::{Defined, Scope, bytes_of, value_of};
+pub use scope::{Defined, Scope, boolean_value_of, bytes_of, value_of};
 pub use shapes::{AirShape, read_shapes};
 pub use table_fault::{TableFault, TableRefusal, TableWhy};
 pub use tables::{AirTables, read_tables};

@@ -5,16 +5,17 @@ ghost use Rattle.language.specs.Formulas.{formula_of};
 ghost use Rattle.language.specs.Items.{group_part_of as said_part, placed_of};
 ghost use Rattle.language.specs.Messages.{message_of as said_by};
 ghost use Rattle.language_meaning.specs.Faults.{IsNameResultOrMemory};
-ghost use Rattle.language_meaning.specs.Lookups.{addition, addition_of, bus_kept, column_alone, column_of, column_together, defined_by, flag_meant, message_on, new_name, sent_part_of, part_on, parts_on, said_by_items, said_of};
+ghost use Rattle.language_meaning.specs.Lookups.{addition, addition_of, constraint_at, constraint_of, bus_kept, column_alone, column_of, column_together, defined_by, flag_meant, message_on, new_name, sent_part_of, part_on, parts_on, said_by_items, said_of};
 ghost use Rattle.language_meaning.specs.Messages.{sent_of};
 ghost use Rattle.language_meaning.specs.Room.{in_room};
-ghost use Rattle.language_meaning.specs.Scopes.{bytes_in, defined_of, names_for, names_of};
+ghost use Rattle.language_meaning.specs.Scopes.{boolean_of, bytes_in, defined_of, names_for, names_of};
 ghost use Rattle.language_meaning.specs.Values.{meant_of};
 
 use crate::bus::{check_bus, same_bus};
+use crate::constraint::NamedConstraint;
 use crate::message::{NamedMessage, named_message};
 use crate::name_fault::{NameFault, NameRefusal, NameWhy, refused};
-use crate::scope::{Defined, Scope, bytes_of, defined_value, value_of};
+use crate::scope::{Defined, Scope, boolean_value_of, bytes_of, defined_value, value_of};
 use crate::value::Value;
 use language::{
     AirText, BatchText, ItemText, MessageText, PartText, PlacedItem, SectionText, Span, Tree,
@@ -41,11 +42,12 @@ pub struct NamedLookup {
     pub parts: Vec<NamedPart>,
 }
 
-/// The lookups of an AIR and its public values, in their order.
+/// The lookups of an AIR, its public values and its constraints, in their order.
 #[derive(Debug, Drop)]
 pub struct NamedAir {
     pub lookups: Vec<NamedLookup>,
     pub public_values: Vec<u64>,
+    pub constraints: Vec<NamedConstraint>,
     /// How many nodes the expressions of further AIRs may have.
     pub room: usize,
 }
@@ -56,11 +58,12 @@ enum Added {
     Nothing,
     Definition(Defined),
     Public(Defined, u64),
+    Constraint(NamedConstraint),
     Lookup(NamedLookup),
 }
 
-/// The lookups of an AIR over these columns of its main and its preprocessed trace, and its public
-/// values. A definition or a public value stands for its name in all later items.
+/// The lookups of an AIR over these columns of its main and its preprocessed trace, its public values and
+/// its constraints. A definition or a public value stands for its name in all later items.
 ///
 /// All expressions together have room for so many nodes: each leaves room for those after it, and
 /// the answer says how much is left for further AIRs. A definition takes room where it stands, and
@@ -85,7 +88,8 @@ pub fn lookups_of(
         (map placed_of air.now.items.items) room) }
 {
     let (mut defined, mut lookups) = (Vec::new(alloc), Vec::new(alloc));
-    let (mut publics, mut left) = (Vec::new(alloc), room);
+    let (mut publics, mut constraints) = (Vec::new(alloc), Vec::new(alloc));
+    let mut left = room;
     for item in &air.items {
         let scope = Scope {
             text,
@@ -102,12 +106,14 @@ pub fn lookups_of(
                 defined.push(definition)?;
                 publics.push(value)?;
             }
+            Added::Constraint(constraint) => constraints.push(constraint)?,
             Added::Lookup(lookup) => lookups.push(lookup)?,
         }
     }
     Ok(NamedAir {
         lookups,
         public_values: publics,
+        constraints,
         room: left,
     })
 }
@@ -139,6 +145,20 @@ fn added_by(
         ItemText::Let(name, tree) => {
             let (definition, left) = defined_by(alloc, scope, *name, tree, room)?;
             Ok((Added::Definition(definition), left))
+        }
+        ItemText::Assert(tree) => {
+            let (value, left) = value_of(alloc, scope, tree, room)?;
+            Ok((
+                Added::Constraint(NamedConstraint { at: item.at, value }),
+                left,
+            ))
+        }
+        ItemText::AssertBool(tree) => {
+            let (value, left) = boolean_value_of(alloc, scope, tree, room)?;
+            Ok((
+                Added::Constraint(NamedConstraint { at: item.at, value }),
+                left,
+            ))
         }
         ItemText::Message(message) => {
             let (lookup, left) = lookup_alone(alloc, scope, sections, message, room)?;

@@ -4,7 +4,7 @@ ghost use Rattle.std.specs.Str.{bytes_eq};
 ghost use Rattle.language.specs.Formulas.{formula_of};
 ghost use Rattle.language_meaning.specs.Faults.{IsNameResultOrMemory};
 ghost use Rattle.language_meaning.specs.Room.{in_room};
-ghost use Rattle.language_meaning.specs.Scopes.{bytes_in, cell_of, defined_of, definition, fixed_name, front_of, meaning, meaning_in, named_in, names_of, next_named, column_number_of, value_in_room, selector_of};
+ghost use Rattle.language_meaning.specs.Scopes.{bytes_in, cell_of, boolean_of, defined_of, definition, fixed_name, front_of, meaning, meaning_in, named_in, names_of, next_named, column_number_of, value_in_room, value_within_layers, selector_of};
 ghost use Rattle.language_meaning.specs.Values.{meant_of, powers};
 
 use crate::name_fault::{NameFault, NameWhy, refused};
@@ -56,10 +56,40 @@ pub fn value_of(
         (meaning (names_of scope.now) (formula_of tree.now) room) }
 {
     let (value, left) = value_in(alloc, scope, tree, room)?;
+    within_layers(value, front_of(tree), left)
+}
+
+/// What an expression times itself less 1 means, which is zero exactly where the expression is 0 or 1. All is
+/// as if the product were written out.
+///
+/// Refuses what `value_of` refuses of that product. Where there is no room for the number 1, or the product
+/// has too many layers, that is at the first name or number of the expression.
+pub fn boolean_value_of(
+    alloc: Global,
+    scope: &Scope<'_>,
+    tree: &Tree,
+    room: usize,
+) -> Result<(Value, usize), NameFault>
+    ensures { IsNameResultOrMemory (in_room meant_of) result
+        (meaning (names_of scope.now) (boolean_of (formula_of tree.now)) room) }
+{
+    let at = front_of(tree);
+    let (first, left) = value_in(alloc, scope, tree, room.saturating_sub(1))?;
+    let (second, left) = value_in(alloc, scope, tree, left.saturating_sub(1))?;
+    let (one, left) = within(Value::Number(1), at, left)?;
+    let value = product_of(alloc, first, difference_of(alloc, second, one)?)?;
+    within_layers(value, at, left)
+}
+
+/// A value with the room that it leaves, if it has at most 1,024 layers.
+fn within_layers(value: Value, at: usize, left: usize) -> Result<(Value, usize), NameFault>
+    ensures { IsNameResultOrMemory (in_room meant_of) result
+        (value_within_layers at (meant_of value, left)) }
+{
     if has_layers(&value, MAX_LAYERS) {
         Ok((value, left))
     } else {
-        Err(refused(front_of(tree), NameWhy::DeepExpression))
+        Err(refused(at, NameWhy::DeepExpression))
     }
 }
 

@@ -12,7 +12,7 @@ use Rattle.lookup_model.specs.declared.error.LookupError.{LookupError}
 use Rattle.lookup_model.specs.declared.error.LookupError.TheVariants.{Memory, CountWeightOverflow}
 use Rattle.lookup_record.specs.Interaction.{Tuple, GlobalInteraction, ExclusiveInteraction}
 use Rattle.lookup.specs.TupleWidths.{AreUnevenWidths}
-use Rattle.lookup_record.specs.RecordedAir.{EvaluatesNew, recorded_air}
+use Rattle.lookup_record.specs.RecordedAir.{EvaluatesNew, RecordedAir, recorded_air}
 use Rattle.lookup_record.specs.declared.symbolic.InteractionSymbolicBuilder.{InteractionSymbolicBuilder}
 use Rattle.lookup.specs.Lookups.{lookups_of}
 use Rattle.lookup.specs.declared.lookups.Lookups.{Lookups}
@@ -98,3 +98,10 @@ Extracts {A} {F} {EF} evaluates air layout answer = MatchResult answer
     (λ e. (e ≡ Memory)
     ⊎ (((refusal : AirError) × EvaluatesNew evaluates air layout (Err refusal) × (e ≡ from_air refusal))
     ⊎ ((b : InteractionSymbolicBuilder F EF) × EvaluatesNew evaluates air layout (Ok b) × IsFirstLocalRefusal (recorded_air b).locals e)))
+
+-- The answer is the extraction from the records of a builder, or the refusal of the first local interaction
+-- with a fault; or memory runs out.
+abbrev pub ExtractsRecords : {F EF : Type 0} → RecordedAir F EF → Result (Lookups F) LookupError → Type 0
+ExtractsRecords recorded answer = MatchResult answer
+    (λ set. (map fields_of (lookups_of set) ≡ extraction recorded.locals recorded.globals recorded.exclusives) × All IsFaultless recorded.locals)
+    (λ e. (e ≡ Memory) ⊎ IsFirstLocalRefusal recorded.locals e)

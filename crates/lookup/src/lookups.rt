@@ -24,8 +24,9 @@ pub struct Lookups<F> {
 }
 
 impl<F: Field> Lookups<F> {
-    ghost use Rattle.lookup.specs.Extraction.{Extracts};
+    ghost use Rattle.lookup.specs.Extraction.{Extracts, ExtractsRecords};
     ghost use Rattle.lookup.specs.Lookups.{StillFit, lookups_of};
+    ghost use Rattle.lookup_record.specs.RecordedAir.{recorded_air};
     ghost use Rattle.lookup_record.specs.RecordedWithin.{EvaluatesWithin};
     ghost use Rattle.std.specs.Fn.{FnReturnsAt};
     ghost use Rattle.lookup_model.specs.Outline.{fields_of};
@@ -60,6 +61,21 @@ impl<F: Field> Lookups<F> {
         let builder = InteractionSymbolicBuilder::from_air(alloc, air, layout)?;
         let (locals, globals, exclusives) = builder.into_interactions();
         let lookups = extraction::extract_lookups(alloc, locals, globals, exclusives)?;
+        Ok(Lookups { lookups })
+    }
+
+    /// The lookups that a builder holds, as [`from_air`](Lookups::from_air) makes them of the builder on which
+    /// it evaluates the AIR. So a caller can take the constraints of the same evaluation before.
+    ///
+    /// Refuses the fault of the first local lookup that has one, or `Memory` when out of memory.
+    pub fn from_builder<EF: ExtensionField<F>>(
+        alloc: Global,
+        builder: InteractionSymbolicBuilder<F, EF>,
+    ) -> Result<Self, LookupError>
+        ensures { ExtractsRecords (recorded_air builder) result }
+    {
+        let (locals, globals, groups) = builder.into_interactions();
+        let lookups = extraction::extract_lookups(alloc, locals, globals, groups)?;
         Ok(Lookups { lookups })
     }
 

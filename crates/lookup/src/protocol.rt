@@ -173,7 +173,9 @@ pub trait LookupProtocol: Sized {
 
     /// Whether the terminals of all AIRs cancel.
     ///
-    /// Refuses `TerminalSumNonZero` if those that are present do not sum to zero.
+    /// Refuses `TerminalSumNonZero` if those that are present do not sum to zero; none sum to zero. Says nothing of
+    /// where a terminal comes from: an AIR with lookups needs a row, since over none any terminal satisfies its
+    /// equations.
     fn verify_terminal_sum<EF: Field>(
         &self,
         terminals: &[Option<LookupTerminal<EF>>],

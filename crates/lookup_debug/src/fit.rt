@@ -45,7 +45,8 @@ pub enum FitFault {
 ///
 /// That is the first lookup with lists of different lengths, or with another column than its index; else the
 /// first one that reads what the traces do not have, with the first such cell of its tuples, its
-/// multiplicities and then its flags, each from left to right; else the heights. Allocates nothing.
+/// multiplicities and then its flags, each from left to right; else the heights. Lookups fit traces without rows;
+/// what is checked over those alone is no evidence. Allocates nothing.
 pub fn fit_fault<F>(
     main: &RowMajorMatrix<F>,
     preprocessed: Option<&RowMajorMatrix<F>>,

@@ -64,6 +64,52 @@ fn batches(rt: HostRuntime) {
     );
 }
 
+/// The same two AIRs with constraints: the first column begins with 1 and grows by 1, and the second one has
+/// values that are 1 or 2.
+const CONSTRAINED: &[u8] = b"air sender {
+trace \"sent.csv\"
+assert is_first_row * (x - 1)
+assert is_transition * (next(x) - x - 1)
+send b(x)
+}
+air receiver {
+trace \"received.csv\"
+let less = x - 1
+assert bool less
+receive b(x)
+}";
+
+/// Where a constraint of the second AIR fails: the row, the constraint, and whether the value is this one.
+/// The first AIR has no such row.
+fn fails_at(alloc: Global, received: &[u8], value: u32) -> Option<(usize, usize, bool)> {
+    let batch: BatchText = read_batch(alloc, CONSTRAINED).ok()?;
+    let files = files(alloc, received).ok()?;
+    let tables = read_tables(alloc, CONSTRAINED, &batch, &files, MODULUS).ok()?;
+    let report = judge::<BabyBear, BabyBear4>(alloc, CONSTRAINED, &batch, &tables, 4, 3).ok()?;
+    match report.failures.as_slice() {
+        [None, Some(failure)] if !report.hold && !report.is_good() => {
+            Some((
+                failure.row,
+                failure.constraint,
+                failure.value == BabyBear::new(value),
+            ))
+        }
+        _ => None,
+    }
+}
+
+#[test]
+fn constraints(rt: HostRuntime) {
+    let alloc = rt.alloc();
+    // 3 - 1 is 2, and 2 * (2 - 1) is 2.
+    let fails = fails_at(alloc, b"x\n1\n2\n3\n", 2);
+    holds(&rt, "the third row", fails == Some((2, 0, true)));
+    // 5 - 1 is 4, and 4 * 3 is 12.
+    let fails = fails_at(alloc, b"x\n1\n5\n7\n", 12);
+    holds(&rt, "the second row", fails == Some((1, 0, true)));
+    holds(&rt, "no row", fails_at(alloc, b"x\n1\n2\n1\n", 0) == None);
+}
+
 /// A batch that has no trace yet: on 5 rows two messages, which share a column within degree 3.
 const PLANNED: &[u8] = b"air a {
 height 5

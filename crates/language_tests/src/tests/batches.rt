@@ -39,7 +39,8 @@ air all {
              `two words`)
     public start = 7
     let sum = a * -2 + limb[3]^2
-
+    assert bool sum
+    assert sum - `bool`
     query local (next(sum), `two words`) times is_first_row at most 3
     together {
 
@@ -55,10 +56,10 @@ air all {
 bus b(x)"#;
     let wanted = b"air all 3: preprocessed p.csv\n4: lookups l.json\n5: height 8\n\
 6: columns a limb[3] two words\n8: public start 7\n9: let sum ((a * -2) + limb[3]^2)\n\
-11: + local(next sum two words) times is_first_row at most 3\n\
-12: together + b(a) + local(1)\n\
-17: exclusive a? - b(pre.x) times 2 (1 - a)? - b(a) times a at most 1\n\
-21: together\nbus b(x)\n";
+10: assert bool sum\n11: assert (sum - bool)\n12: + local(next sum two words) times is_first_row at most 3\n\
+13: together + b(a) + local(1)\n\
+18: exclusive a? - b(pre.x) times 2 (1 - a)? - b(a) times a at most 1\n\
+22: together\nbus b(x)\n";
     holds(&rt, "each item", says(rt.alloc(), text, wanted));
     holds(
         &rt,

@@ -179,6 +179,24 @@ provide local(q) times 3
     holds(&rt, "a public value", sends(group, 1, 0, 3001, minus, 0));
 }
 
+#[test]
+fn constraints(rt: HostRuntime) {
+    let text = br#"air t {
+assert a
+let s = a + 1
+assert bool s
+}"#;
+    let Some(Ok(air)) = said(rt.alloc(), text, b"a") else {
+        return holds(&rt, "it is read", false);
+    };
+    let [zero, bit] = air.constraints.as_slice() else {
+        return holds(&rt, "two constraints", false);
+    };
+    holds(&rt, "where they begin", (zero.at, bit.at) == (8, 31));
+    holds(&rt, "a cell", number(&zero.value) == 1000);
+    holds(&rt, "1001 * 1000", number(&bit.value) == 1_001_000);
+}
+
 /// Whether the first AIR of a text, which has the column `a`, is refused at this line and column.
 fn refused(alloc: Global, text: &[u8], line: usize, column: usize, why: NameWhy) -> bool {
     match said(alloc, text, b"a") {
@@ -311,6 +329,17 @@ when s query local(s, -s)
         &rt,
         "none for the flag",
         refused_in(alloc, text, 1, 5, 68, NameWhy::LargeExpression),
+    );
+    // one node, and with the product written out 9
+    let text = br#"air t {
+assert a
+assert bool a + 1
+}"#;
+    holds(&rt, "constraints", leaves(alloc, text, 0, 16, 6));
+    holds(
+        &rt,
+        "none for the number 1",
+        refused_in(alloc, text, 0, 9, 29, NameWhy::LargeExpression),
     );
 }
 

@@ -104,6 +104,14 @@ impl<'a> Page<'a> {
                 self.put(b" ")?;
                 self.tree(value)
             }
+            ItemText::Assert(value) => {
+                self.put(b"assert ")?;
+                self.tree(value)
+            }
+            ItemText::AssertBool(value) => {
+                self.put(b"assert bool ")?;
+                self.tree(value)
+            }
             ItemText::Message(message) => self.message(message),
             ItemText::Together(parts) => self.parts(b"together", parts),
             ItemText::Exclusive(parts) => self.parts(b"exclusive", parts),

@@ -1,4 +1,4 @@
-use Rattle.std.proofs.Common.{◌∙◌, ap, inl, inr, map, refl, subst, sym}
+use Rattle.std.proofs.Common.{◌≡◌, ◌↔◌, ◌∙◌, All, IsTrue, List, Option, None, ap, inl, inr, map, refl, subst, sym}
 use Rattle.std.proofs.lemmas.Result.{err_from_is_err_and}
 use Rattle.std.proofs.lemmas.Simd.{map-map}
 use Rattle.batch.specs.Runs.{plan_of}
@@ -12,10 +12,13 @@ use Rattle.language.specs.Batches.{section_of}
 use Rattle.check_judge.specs.Causes.{IsReportRefusal}
 use Rattle.check_judge.specs.Found.{IsPlanOf, sized_of}
 use Rattle.check_judge.specs.Said.{airs_of}
-use Rattle.check_judge.specs.Airs.{over_traced}
+use Rattle.check_judge.specs.Airs.{AreFittingAirs, over_traced}
+use Rattle.check_judge.specs.Constraints.{AreChecked, over_constrained}
+use Rattle.check_judge.specs.declared.constraints.ConstraintFailure.{ConstraintFailure}
 use Rattle.check_judge.specs.internal.Sizes.{sized_lookups_of}
 use Rattle.check_judge.specs.internal.Sharing.{AllHaveTuples}
 use Rattle.check_judge.proofs.CauseLaws.{kept_refusal}
+use Rattle.check_judge.proofs.ConstraintLaws.{checked_over, hold_exactly}
 use Rattle.check_judge.proofs.FittingLaws.{fitting_instances}
 use Rattle.check_judge.proofs.JudgeLaws.{balanced_over, planned_over}
 use Rattle.check_judge.proofs.TupleLaws.{traced_there}
@@ -39,8 +42,8 @@ report_plan-requires-clause-tuples g c =
     let sizes = ap (map sized_lookups_of) c.deref-7.ensures.value ∙ (c.in_ok-sizes.ensures ∙ (ap (map (λ a. sized_of (over_traced a))) c.deref-6.ensures.value ∙ sym (map-map sized_of over_traced airs))) in
     subst AllHaveTuples (sym sizes) (traced_there (of_nat g.F.PrimeCharacteristicRing.ring) c.args.text.now sections 1048576 (airs_of sections) (map tables_of c.args.tables.now) (map over_traced airs) c.in_ok-airs.ensures.said.1)
 
-pub returns : goal.returns
-returns g c =
+pub returns-clause-found : goal.returns-clause-found
+returns-clause-found g c =
     let airs = c.in_ok-airs.field-0.airs.items in
     let traced = map over_traced airs in
     let plan = plan_of c.in_ok-airs.field-0.plan in
@@ -67,8 +70,20 @@ returns g c =
       },
     )
 
-pub returns-in_err-airs : goal.returns-in_err-airs
-returns-in_err-airs g c =
+pub failures_of-requires : goal.failures_of-requires
+failures_of-requires g c = subst AreFittingAirs (sym c.deref-8.ensures.value) c.in_ok-airs.ensures.fit
+
+pub returns-clause-constraints : goal.returns-clause-constraints
+returns-clause-constraints g c =
+    let R = g.F.PrimeCharacteristicRing.ring in
+    let airs = c.in_ok-airs.field-0.airs.items in
+    let found = c.in_ok-failures.failures.items in
+    let checked = subst (λ over. AreChecked R (map over_constrained over) found) c.deref-8.ensures.value (checked_over R c.deref-8.result.now found c.in_ok-failures.ensures) in
+    let told = subst (λ (fs : List (Option (ConstraintFailure _))). IsTrue c.all_hold-hold.result ↔ All (λ failure. failure ≡ None) fs) c.deref-9.ensures.value c.all_hold-hold.ensures in
+    (map over_constrained airs, c.in_ok-airs.ensures.constrained, checked, hold_exactly R (map over_constrained airs) found c.all_hold-hold.result checked told)
+
+pub returns-in_err-airs-clause-found : goal.returns-in_err-airs-clause-found
+returns-in_err-airs-clause-found g c =
     let p = err_from_is_err_and c.from_residual.result c.from_residual.ensures.1 in
     rw (p.1, p.2) (elim c.in_err-airs.ensures.refused [
       | inl memory ↦ inl memory
@@ -76,8 +91,8 @@ returns-in_err-airs g c =
       | inr (inr later) ↦ inr (inr (later.0, inl later.1))
     ])
 
-pub returns-in_err-counts : goal.returns-in_err-counts
-returns-in_err-counts g c =
+pub returns-in_err-counts-clause-found : goal.returns-in_err-counts-clause-found
+returns-in_err-counts-clause-found g c =
     let airs = c.in_ok-airs.field-0.airs.items in
     let plan = plan_of c.in_ok-airs.field-0.plan in
     let planned = subst (λ s. IsPlanOf g.F.PrimeCharacteristicRing.CHARACTERISTIC s plan) (sym (map-map sized_of over_traced airs)) c.in_ok-airs.ensures.planned in
@@ -88,8 +103,8 @@ returns-in_err-counts g c =
       | inr kept ↦ inr (inr (c.in_ok-airs.ensures.said.0, inr (map over_traced airs, plan, c.in_ok-airs.ensures.said.1, planned, (c.deref-2.result.now, traces, inl (c.in_err-counts.field-0.0, c.in_err-counts.ensures.answer, kept.0, refl)))))
     ])
 
-pub returns-in_err-plan : goal.returns-in_err-plan
-returns-in_err-plan g c =
+pub returns-in_err-plan-clause-found : goal.returns-in_err-plan-clause-found
+returns-in_err-plan-clause-found g c =
     let airs = c.in_ok-airs.field-0.airs.items in
     let plan = plan_of c.in_ok-airs.field-0.plan in
     let planned = subst (λ s. IsPlanOf g.F.PrimeCharacteristicRing.CHARACTERISTIC s plan) (sym (map-map sized_of over_traced airs)) c.in_ok-airs.ensures.planned in

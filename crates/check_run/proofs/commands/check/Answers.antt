@@ -1,15 +1,17 @@
-use Rattle.std.proofs.Common.{◌≡◌, ◌⊎◌, ◌∙◌, List, ap, map, refl, subst, sym}
+use Rattle.std.proofs.Common.{◌≡◌, ◌⊎◌, ◌∙◌, List, ap, map, subst, sym}
 use Rattle.field.specs.Ring.{of_nat}
 use Rattle.field_words.specs.Fields.{run_fields}
 use Rattle.language_meaning.specs.Files.{named_of}
 use Rattle.language_meaning.specs.Tables.{TablesOf, all_tables, tables_of}
 use Rattle.language.specs.Batches.{Section, section_of}
 use Rattle.check_judge.specs.Causes.{IsJudgeRefusal}
+use Rattle.check_judge.specs.Constraints.{AreConstrained}
 use Rattle.check_judge.specs.Said.{AreSaid, airs_of}
 use Rattle.check_judge.specs.declared.fault.JudgeFault.{JudgeFault}
 use Rattle.check_judge.specs.declared.fault.JudgeFault.TheVariants as fault
 use Rattle.check_judge.proofs.JudgeLaws.{found_within}
 use Rattle.check_run.proofs.RunRefusalLaws.{read_refused}
+use Rattle.check_run.proofs.VerdictLaws.{both_good}
 use Rattle.check_run.proofs.commands.check.Goals as goal
 use Rattle.check_run.proofs.commands.check.Goals.{then-json+in_ok-push_report_json-in-Ok, else-json+in_ok-push_report-in-Ok}
 
@@ -17,21 +19,26 @@ pub returns-in-Ok : goal.returns-in-Ok
 returns-in-Ok g c =
     let text = c.args.given.text.now in
     let sections = map section_of c.in_ok-batch.batch.sections.items in
-    let traced = c.in-Ok.ensures.1 in
+    let traced = c.in-Ok.ensures.found.1 in
+    let constraints = c.in-Ok.ensures.constraints in
     record {
       traced = traced;
       batch = record {
         sections = sections;
         read = c.in_ok-batch.ensures;
-        distinct = c.in-Ok.ensures.0;
+        distinct = c.in-Ok.ensures.found.0;
         tables = map tables_of c.in_ok-tables.tables.items;
         tables_are = ap (λ m. all_tables text (map named_of c.args.given.files.now) m sections) (sym c.modulus.ensures) ∙ c.in_ok-tables.ensures;
-        said = subst (λ ts. AreSaid (of_nat g.F.PrimeCharacteristicRing.ring) text sections 1048576 (airs_of sections) (map tables_of ts) traced) c.deref.ensures.value c.in-Ok.ensures.2;
+        said = subst (λ ts. AreSaid (of_nat g.F.PrimeCharacteristicRing.ring) text sections 1048576 (airs_of sections) (map tables_of ts) traced) c.deref.ensures.value c.in-Ok.ensures.found.2;
       };
       report = c.in-Ok.report;
-      found = found_within _ _ _ _ c.args.max_degree _ traced c.in-Ok.report c.max-most.ensures c.in-Ok.ensures.3;
-      verdict = refl;
-      balanced = c.in-Ok.ensures.3.balanced;
+      found = found_within _ _ _ _ c.args.max_degree _ traced c.in-Ok.report c.max-most.ensures c.in-Ok.ensures.found.3;
+      airs = constraints.0;
+      constrained = subst (λ ts. AreConstrained (of_nat g.F.PrimeCharacteristicRing.ring) text sections 1048576 (airs_of sections) (map tables_of ts) constraints.0) c.deref.ensures.value constraints.1;
+      checked = constraints.2;
+      hold = constraints.3;
+      verdict = c.is_good.ensures;
+      good = both_good c.in-Ok.report.balanced c.in-Ok.report.hold c.is_good.result c.is_good.ensures c.in-Ok.ensures.found.3.balanced constraints.3;
       told = λ plain. elim c.if-json.branch [
         | then-json+in_ok-push_report_json-in-Ok w ↦ absurd (cc (sym plain ∙ w.if-json.true))
         | else-json+in_ok-push_report-in-Ok w ↦ (w.in_ok-push_report-in-Ok.ensures.0, ap (λ p. p.bytes.items) w.page-is ∙ w.in_ok-push_report-in-Ok.ensures.1)
@@ -47,5 +54,5 @@ returns g c =
     let p = fields.characteristic in
     let Later : List Section → List TablesOf → JudgeFault → Type 0 = λ s. IsJudgeRefusal fields.extension p text s c.args.max_degree in
     let there = ap (λ m. all_tables text files m sections) (sym c.modulus.ensures) ∙ c.in_ok-tables.ensures in
-    let cause = subst (λ ts. (c.in-Err.fault ≡ fault.Memory) ⊎ Later sections (map tables_of ts) c.in-Err.fault) c.deref.ensures.value c.in-Err.ensures in
+    let cause = subst (λ ts. (c.in-Err.fault ≡ fault.Memory) ⊎ Later sections (map tables_of ts) c.in-Err.fault) c.deref.ensures.value c.in-Err.ensures.found in
     read_refused text (all_tables text files p) Later sections (map tables_of c.in_ok-tables.tables.items) c.in-Err.fault c.in_ok-of_judge-in-Err.field-0 c.in_ok-batch.ensures there c.in_ok-of_judge-in-Err.ensures cause

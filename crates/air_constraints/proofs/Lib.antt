@@ -1,0 +1,6 @@
+pub mod BitLaws
+mod BoundLaws
+mod ProductLaws
+mod RecogniseLaws
+mod SumLaws
+mod TreeLaws

@@ -1,0 +1,10 @@
+use Rattle.std.proofs.Common.{◌≡◌, take}
+use Rattle.air_expressions.specs.Window.{Window}
+use Rattle.air_constraints.specs.Facts.{AreSo}
+use Rattle.air_constraints.specs.Polynomials.{sum_at}
+use Rattle.air_constraints.proofs.polynomial.product_of.Given as goal
+
+abbrev pub invariant-loop-term : goal.invariant-loop-term
+invariant-loop-term g l =
+    let R = g.F.PrimeCharacteristicRing.ring in
+    (w : Window g.row.F.Denot) → AreSo R w l.facts → sum_at R w l.product.items ≡ R.mul (sum_at R w (take l.term-index l.a)) (sum_at R w l.b)

@@ -1,0 +1,10 @@
+use Rattle.std.proofs.Common.{◌≡◌, take}
+use Rattle.air_expressions.specs.Window.{Window}
+use Rattle.air_constraints.specs.Facts.{AreSo}
+use Rattle.air_constraints.specs.Polynomials.{sum_at}
+use Rattle.air_constraints.proofs.trees.rewritten.Given as goal
+
+abbrev pub invariant-loop-term : goal.invariant-loop-term
+invariant-loop-term g l =
+    let R = g.F.PrimeCharacteristicRing.ring in
+    (w : Window g.row.F.Denot) → AreSo R w l.facts → sum_at R w l.sum.items ≡ sum_at R w (take l.term-index l.terms)

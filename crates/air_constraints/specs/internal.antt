@@ -1,0 +1,2 @@
+-- What contracts of private functions and proofs are stated with. No public contract rests on it.
+pub mod Bits

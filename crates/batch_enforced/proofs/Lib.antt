@@ -1,0 +1,5 @@
+mod AirLaws
+mod FlagLaws
+mod PlanLaws
+mod QueryLaws
+mod RefusalLaws

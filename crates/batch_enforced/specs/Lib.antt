@@ -1,0 +1,5 @@
+pub mod Constrained
+pub mod EnforcedPlans
+pub mod HeightBounds
+pub mod PlanRefusals
+pub mod Queries

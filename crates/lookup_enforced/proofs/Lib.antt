@@ -1,0 +1,4 @@
+mod BoundLaws
+mod FlagLaws
+mod RowLaws
+pub mod WeightLaws

@@ -1,0 +1,4 @@
+pub mod Enforced
+pub mod Extraction
+pub mod Weights
+pub mod internal
