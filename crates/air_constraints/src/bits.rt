@@ -1,4 +1,4 @@
-//! Cells that are bits, and lists of bits whose sum is one.
+//! Cells that are bits.
 ghost use Rattle.std.specs.Prelude.{IfOk, OnOk};
 ghost use Rattle.air_expressions.specs.Window.{Window};
 ghost use Rattle.air_constraints.specs.Facts.{AreBits, AreSo};

@@ -1,4 +1,4 @@
-//! Groups: cells that are bits, of which at most one is set.
+//! Exclusive cells: bits of which at most one is set.
 ghost use Rattle.std.specs.Prelude.{◌≡◌, All, IfOk, IfSome, IsTrue, OnOk, map};
 ghost use Rattle.std.specs.List.{AllByRecursion};
 ghost use Rattle.air_expressions.specs.Meaning.{variable_value};
@@ -145,8 +145,8 @@ fn push_exclusive<F: Field>(
     Ok(())
 }
 
-/// Appends the lists of exclusive cells that a polynomial that is zero shows: of a linear one the cells of one sign, else all
-/// of its cells.
+/// Appends the lists of exclusive cells that a polynomial that is zero shows: of a linear one the cells of one
+/// sign, else all of its cells.
 ///
 /// Fails only when out of memory.
 fn push_all_exclusive<F: Field>(

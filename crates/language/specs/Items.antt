@@ -128,7 +128,7 @@ let_at ts = do
   value ← formula_at us
   Ok (letting name.0 value.0, value.1)
 
--- an expression that is zero on every row, or behind `bool` one that is 0 or 1
+-- an expression that has to be zero on every row, or behind `bool` one that has to be 0 or 1
 abbrev pub assertion_in : Word → List Token → Read Item
 assertion_in words.Bool ts = formula_at (drop 1 ts) >>= λ x. Ok (asserted_bool x.0, x.1)
 assertion_in w ts = formula_at ts >>= λ x. Ok (asserted x.0, x.1)

@@ -36,9 +36,9 @@ pub enum ItemText {
     Public(Span, u64),
     /// An expression, by its name.
     Let(Span, Tree),
-    /// An expression that is zero on every row.
+    /// An expression that has to be zero on every row.
     Assert(Tree),
-    /// An expression that is 0 or 1 on every row.
+    /// An expression that has to be 0 or 1 on every row.
     AssertBool(Tree),
     Message(MessageText),
     /// Messages in one column, all of which count.
@@ -149,7 +149,7 @@ fn read_let(alloc: Global, tokens: &[Token]) -> Result<(ItemText, &[Token]), Tex
     Ok((ItemText::Let(name, value), after))
 }
 
-/// An expression that is zero on every row, or behind `bool` one that is 0 or 1.
+/// An expression that has to be zero on every row, or behind `bool` one that has to be 0 or 1.
 #[tactic(auto, unfolding(crate::specs::Items::assertion_at))]
 fn read_assertion(alloc: Global, tokens: &[Token]) -> Result<(ItemText, &[Token]), TextFault>
     ensures { IsTextResultOrMemory (λ x. (item_of x.0, x.1.now)) result (assertion_at tokens.now) }

@@ -42,7 +42,7 @@ pub record Column : Type 0 where
 abbrev pub column_of : NamedLookup → Column
 column_of l = record { at = l.at; bus = l.bus; exclusive = l.exclusive; parts = map sent_part_of l.parts.items }
 
--- an expression that is zero on every row, and where its item begins
+-- an expression that has to be zero on every row, and where its item begins
 pub record Constraint : Type 0 where
   pub at : ℕ
   pub value : Meant

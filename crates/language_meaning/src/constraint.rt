@@ -11,7 +11,7 @@ use air_expressions::SymbolicExpression;
 use field::PrimeCharacteristicRing;
 use std::alloc::{AllocError, Global};
 
-/// An expression that is zero on every row.
+/// An expression that has to be zero on every row.
 #[derive(Debug, Drop)]
 pub struct NamedConstraint {
     /// The byte at which its item begins.
