@@ -1,5 +1,6 @@
 pub mod BitLaws
 mod BoundLaws
+mod ExclusiveLaws
 mod ProductLaws
 mod RecogniseLaws
 mod SumLaws
