@@ -2,13 +2,13 @@
 use Rattle.std.proofs.Common.{◌≡◌, inl, inr, ℕ, zero, suc, ◌+◌, ◌<◌, ◌≤◌, List, [], ◌∷◌, length, take, get_or, refl, sym, ap, ap₂, subst, ◌∙◌, arith}
 use Rattle.list_laws.proofs.Items.{take_item}
 use Rattle.field.specs.Ring.{Ring, IsCommutativeRing}
-use Rattle.field.specs.laws.RingFacts.{add_zero, mul_zero, one_mul, zero_add}
+use Rattle.field.specs.laws.RingFacts.{one_mul, zero_add}
 use Rattle.field.specs.laws.RingSolver.{var, con, ◌:+◌, ◌:*◌, ring_given}
 use Rattle.air_expressions.specs.Meaning.{variable_value}
 use Rattle.air_expressions.specs.Window.{Window}
 use Rattle.air_expressions.specs.declared.variable.SymbolicVariable.{SymbolicVariable}
 use Rattle.air_constraints.specs.Facts.{AreApart, IsBit}
-use Rattle.air_constraints.specs.Polynomials.{sum_at, term_at}
+use Rattle.air_constraints.specs.Polynomials.{product_at, sum_at, term_at}
 use Rattle.air_constraints.specs.declared.term.Term.{Term}
 use Rattle.air_constraints.proofs.SumLaws.{sum-push}
 
@@ -53,3 +53,14 @@ module _ {F : Type 0} {R : Ring F} (laws : IsCommutativeRing R) (w : Window F) w
   pub sum-next : (ts : List (Term F)) (i : ℕ) (t : Term F) → i < length ts → t ≡ get_or ts i t
       → sum_at R w (take (i + 1) ts) ≡ R.add (term_at R w t) (sum_at R w (take i ts))
   sum-next ts i t lt is = ap (sum_at R w) (take_item ts i t lt is) ∙ sum-push laws w (take i ts) t
+
+  -- the value of a term that is one cell, once
+  pub lone : (t : Term F) (c d : SymbolicVariable F) → t.coefficient ≡ R.one → length t.cells.items ≡ 1 → d ≡ get_or t.cells.items 0 d
+      → variable_value R w d ≡ variable_value R w c → term_at R w t ≡ variable_value R w c
+  lone t c d one single is same =
+      ap₂ R.mul one (product t.cells.items single is) ∙ one_mul laws (variable_value R w d) ∙ same
+    where
+      product : (vs : List (SymbolicVariable F)) → length vs ≡ 1 → d ≡ get_or vs 0 d → product_at R w vs ≡ variable_value R w d
+      product [] one is = absurd (omega (arith, one))
+      product (v ∷ []) one is = ap (λ (u : SymbolicVariable F). R.mul (variable_value R w u) R.one) (sym is) ∙ laws.mul_one (variable_value R w d)
+      product (v ∷ u ∷ vs) one is = absurd (omega (arith, one))

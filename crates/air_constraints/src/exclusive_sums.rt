@@ -16,10 +16,13 @@ fn is_lone<F: Field>(term: &Term<F>, cell: SymbolicVariable<F>) -> bool
     ensures { IsTrue result → (w : Window F)
         → term_at F.ring w term.now ≡ variable_value F.ring w cell }
 {
-    if term.coefficient != F::ONE || term.cells.len() != 1 {
+    if term.cells.len() != 1 {
         return false;
     }
-    same_cell(term.cells[0], cell)
+    if term.coefficient == F::ONE {
+        return same_cell(term.cells[0], cell);
+    }
+    false
 }
 
 /// Whether the next one of some terms is this cell, which is a bit.

@@ -1,6 +1,8 @@
 //! What a fixed trace says of its cells, as constraints.
-ghost use Rattle.std.specs.Prelude.{All, IfOk, OnOk};
+ghost use Rattle.std.specs.Prelude.{IfOk, IsTrue, OnOk, Some, []};
+ghost use Rattle.air.specs.Traces.{air_traces};
 ghost use Rattle.air_constraints.specs.Fixed.{HoldOverFixed, ReadsFixed};
+ghost use Rattle.air_constraints.specs.Hold.{HoldOn};
 
 use crate::check::check_constraints;
 use air::{BaseEntry, SymbolicExpression, SymbolicVariable, Traces};
@@ -27,13 +29,31 @@ pub fn fixed_constraints<F: Field>(
     let mut found = Vec::new(alloc);
     let mut bits = Vec::new(alloc);
     for column in columns {
-        let is_bit = push_bit(alloc, &mut found, preprocessed, *column)?;
-        if is_bit {
-            push_products(alloc, &mut found, preprocessed, bits.as_slice(), *column)?;
-            bits.push(*column)?;
-        }
+        push_column(alloc, &mut found, &mut bits, preprocessed, *column)?;
     }
     Ok(found)
+}
+
+/// Appends what a column says, by itself and beside columns of bits, and appends it to these if it is one.
+///
+/// Fails only when out of memory.
+fn push_column<F: Field>(
+    alloc: Global,
+    found: &mut Vec<SymbolicExpression<F>>,
+    bits: &mut Vec<usize>,
+    preprocessed: &RowMajorMatrix<F>,
+    column: usize,
+) -> Result<(), AllocError>
+    ensures { OnOk result (HoldOverFixed F.ring preprocessed.now found.old.items
+        → HoldOverFixed F.ring preprocessed.now found.new.items) }
+{
+    let is_bit = push_bit(alloc, found, preprocessed, column)?;
+    if !is_bit {
+        return Ok(());
+    }
+    push_products(alloc, found, preprocessed, bits.as_slice(), column)?;
+    bits.push(column)?;
+    Ok(())
 }
 
 /// Appends that the cells of a column are bits, and returns whether they are.
@@ -50,8 +70,7 @@ fn push_bit<F: Field>(
 {
     let current = bit_constraint(alloc, 0, column)?;
     let next = bit_constraint(alloc, 1, column)?;
-    let candidates = Vec::from_array(alloc, [current, next])?;
-    Ok(append_holding(found, candidates, preprocessed)?)
+    Ok(push_holding(alloc, found, current, next, preprocessed)?)
 }
 
 /// Appends of each of these columns whose product with another one is zero that it is.
@@ -70,35 +89,54 @@ fn push_products<F: Field>(
     for column in columns {
         let current = product_constraint(alloc, 0, *column, other)?;
         let next = product_constraint(alloc, 1, *column, other)?;
-        let candidates = Vec::from_array(alloc, [current, next])?;
-        append_holding(found, candidates, preprocessed)?;
+        push_holding(alloc, found, current, next, preprocessed)?;
     }
     Ok(())
 }
 
-/// Appends constraints on fixed cells, if all of them hold over the trace, and returns whether they do.
+/// Appends two constraints on fixed cells, if both hold over the trace, and returns whether they do.
 ///
 /// Fails only when out of memory.
-fn append_holding<F: Field>(
+fn push_holding<F: Field>(
+    alloc: Global,
     found: &mut Vec<SymbolicExpression<F>>,
-    candidates: Vec<SymbolicExpression<F>>,
+    current: SymbolicExpression<F>,
+    next: SymbolicExpression<F>,
     preprocessed: &RowMajorMatrix<F>,
 ) -> Result<bool, AllocError>
-    requires { All (ReadsFixed F.ring) candidates.items }
+    requires current { ReadsFixed F.ring current }
+    requires next { ReadsFixed F.ring next }
     ensures { OnOk result (HoldOverFixed F.ring preprocessed.now found.old.items
         → HoldOverFixed F.ring preprocessed.now found.new.items) }
+{
+    let mut candidates = Vec::new(alloc);
+    candidates.push(current)?;
+    candidates.push(next)?;
+    let hold = hold_over(candidates.as_slice(), preprocessed);
+    if !hold {
+        return Ok(false);
+    }
+    found.append(&mut candidates)?;
+    Ok(true)
+}
+
+/// Whether constraints hold over traces with this preprocessed trace, which stands for the main one too.
+fn hold_over<F: Field>(
+    constraints: &[SymbolicExpression<F>],
+    preprocessed: &RowMajorMatrix<F>,
+) -> bool
+    ensures { IsTrue result
+        → HoldOn F.ring (air_traces preprocessed.now (Some preprocessed.now) []) constraints.now }
 {
     let traces = Traces {
         main: preprocessed,
         preprocessed: Some(preprocessed),
         public_values: &[],
     };
-    if check_constraints(candidates.as_slice(), &traces).is_err() {
-        return Ok(false);
+    match check_constraints(constraints, &traces) {
+        Ok(()) => true,
+        Err(_) => false,
     }
-    let mut held = candidates;
-    found.append(&mut held)?;
-    Ok(true)
 }
 
 /// A cell of the preprocessed trace, of the current row at offset 0 and of the next one at offset 1.
