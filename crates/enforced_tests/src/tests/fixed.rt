@@ -1,4 +1,5 @@
 //! What a fixed trace says of its cells.
+use super::constraints::trace_of;
 use super::{holds, list};
 use air::Traces;
 use air_constraints::{check_constraints, fixed_constraints};
@@ -12,17 +13,8 @@ use std::process::Abort;
 
 /// Rows 0 and 1 are told apart by a column each; a third column counts from 0, and the fourth is 1 on rows 1 and 2.
 fn fixed(rt: &impl Abort, alloc: Global) -> RowMajorMatrix<F7> {
-    let rows = [
-        1, 0, 0, 0, //
-        0, 1, 1, 1, //
-        0, 0, 2, 1, //
-        0, 0, 3, 0,
-    ];
-    let mut cells = Vec::new(alloc);
-    for number in rows {
-        cells.push(F7::from_u32(number)).expect(rt, "memory");
-    }
-    RowMajorMatrix::new(cells, 4)
+    let rows = [1, 0, 0, 0, 0, 1, 1, 1, 0, 0, 2, 1, 0, 0, 3, 0];
+    trace_of(alloc, rows.as_slice(), 4).expect(rt, "four rows")
 }
 
 /// A cell of a fixed column, of the current row at offset 0 and of the next one at offset 1.
@@ -55,7 +47,7 @@ fn are_shown(
     };
     let lookups = list(rt, alloc, [lookup]);
     let shown = enforcements(alloc, known.as_slice(), lookups.as_slice(), 4).expect(rt, "memory");
-    shown[0].flags
+    shown.first().expect(rt, "a lookup").flags
 }
 
 /// Columns of zeros and ones that are nowhere both one are lawful flags, on the row and on the next one.

@@ -123,3 +123,22 @@ fn a_large_product(rt: HostRuntime) {
         are_shown(alloc, constraints.as_slice(), flags) == Some(true),
     );
 }
+
+/// A constraint of a hundred thousand nodes: `a * (a - 1)`, added to itself again and again. It shows that the cell is
+/// a bit, as its half does.
+#[test]
+fn a_hundred_thousand_nodes(rt: HostRuntime) {
+    let alloc = rt.alloc();
+    let less = cell(0)
+        .sub(alloc, Base::constant(BabyBear::ONE))
+        .expect(&rt, "memory");
+    let mut sum = cell(0).mul(alloc, less).expect(&rt, "memory");
+    for _ in 0..14 {
+        let other = sum.copy(alloc).expect(&rt, "memory");
+        sum = sum.add(alloc, other).expect(&rt, "memory");
+    }
+    let constraints = Vec::from_array(alloc, [sum]).expect(&rt, "memory");
+    let flags = cells(alloc, 1).expect(&rt, "memory");
+    let shown = are_shown(alloc, constraints.as_slice(), flags);
+    holds(&rt, "shown", shown == Some(true));
+}
