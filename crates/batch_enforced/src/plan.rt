@@ -21,6 +21,7 @@ use std::alloc::Global;
 pub struct EnforcedPlan<F: Field> {
     plan: BatchPlan<F>,
     constraints: Vec<Vec<SymbolicExpression<F>>>,
+    pub ghost as_many: { length constraints.items ≡ length (plan_of plan).airs },
     pub ghost enforced: { HaveEnforcedFlags F.ring F.eq (constraints_of constraints.items) (plan_of plan).airs (plan_of plan).heights } by { Prim.hlevel props },
 }
 
@@ -115,6 +116,7 @@ impl<F: Field> EnforcedPlan<F> {
             (IsWeightRefusal F.ring F.eq (queries_of queries.now) (constraints_of self.now.constraints.items)
             (plan_of self.now.plan).airs (plan_of self.now.plan).heights) }
     {
+        self.plan.laws();
         let airs = self.plan.airs();
         if queries.len() != airs.len() {
             return Err(WeightError::LengthMismatch {
@@ -132,7 +134,8 @@ impl<F: Field> EnforcedPlan<F> {
         constraints: Vec<Vec<SymbolicExpression<F>>>,
         unshown: Option<UnshownFlags>,
     ) -> Result<Self, EnforcementError>
-        requires { MatchOption unshown (HaveEnforcedFlags F.ring F.eq
+        requires as_many { length constraints.items ≡ length (plan_of plan).airs }
+        requires shown { MatchOption unshown (HaveEnforcedFlags F.ring F.eq
             (constraints_of constraints.items) (plan_of plan).airs (plan_of plan).heights) (λ _. ⊤) }
         ensures { MatchResult result
             (λ made. (made.plan ≡ plan) × (made.constraints ≡ constraints))

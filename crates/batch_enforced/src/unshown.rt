@@ -81,8 +81,9 @@ fn unshown_of_air<F: Field>(
     }
     let missing = missing_flags(alloc, constraints, lookups, height)?;
     for index in 0..lookups.len() {
+        let lookup = &lookups[index];
         if let Some(missing) = missing[index] {
-            let bus = bus_name(alloc, &lookups[index].kind)?;
+            let bus = bus_name(alloc, &lookup.kind)?;
             return Ok(Some(UnshownFlags {
                 air,
                 lookup: index,

@@ -98,7 +98,11 @@ pub(crate) fn check_all_weights<F: Field>(
         let lookups = airs[air].as_slice();
         let constraints = constraints[air].as_slice();
         let queries = queries[air].as_slice();
-        check_weights_of(alloc, air, lookups, heights[air], constraints, queries)?;
+        let height = heights[air];
+        match check_weights_of(alloc, air, lookups, height, constraints, queries) {
+            Ok(()) => {}
+            Err(error) => return Err(error),
+        }
     }
     Ok(())
 }
