@@ -25,7 +25,7 @@ fn is_lone<F: Field>(term: &Term<F>, cell: SymbolicVariable<F>) -> bool
     false
 }
 
-/// Whether the next one of some terms is this cell, which is a bit.
+/// Whether there is a term at this index, and it is this cell, once, and one of the bits.
 fn is_next_bit<F: Field>(
     terms: &[Term<F>],
     at: usize,

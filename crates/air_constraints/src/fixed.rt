@@ -11,12 +11,13 @@ use field::{Field, PrimeCharacteristicRing};
 use matrix::RowMajorMatrix;
 use std::alloc::{AllocError, Global};
 
-/// What these columns of a preprocessed trace say of its cells, as constraints that hold on all traces that have it: of
-/// each column of zeros and ones that its cells are bits, and of any two such columns that are nowhere both one that
-/// their product is zero; both of the current row and of the next one.
+/// What these columns of a preprocessed trace say of its cells, as constraints that hold on all traces that have it and
+/// are as high: of each column of zeros and ones that its cells are bits, and of any two such columns that are nowhere
+/// both one that their product is zero; each of the current row and of the next one.
 ///
-/// No AIR asserts this, since a verifier knows what it fixes. Take the columns that flags and counts read: each
-/// one more is tested row by row against all before it. A column that the trace does not have counts as zeros.
+/// An AIR need not assert this, since a verifier knows what it fixes. Take the columns that flags and counts read: each
+/// one more is tested row by row against each column of bits before it. A column that the trace does not have counts
+/// as zeros.
 ///
 /// Fails only when out of memory.
 pub fn fixed_constraints<F: Field>(
@@ -56,7 +57,7 @@ fn push_column<F: Field>(
     Ok(())
 }
 
-/// Appends that the cells of a column are bits, and returns whether they are.
+/// Appends that the cells of a column are bits, if they are, and returns whether they are.
 ///
 /// Fails only when out of memory.
 fn push_bit<F: Field>(
@@ -73,7 +74,7 @@ fn push_bit<F: Field>(
     Ok(push_holding(alloc, found, current, next, preprocessed)?)
 }
 
-/// Appends of each of these columns whose product with another one is zero that it is.
+/// Appends, for each of these columns whose product with the other one is zero on all rows, that this product is zero.
 ///
 /// Fails only when out of memory.
 fn push_products<F: Field>(

@@ -31,7 +31,7 @@ impl<F: Field> EnforcedPlan<F> {
     ghost use Rattle.batch.specs.Heights.{CountsHeights, most_planned};
     ghost use Rattle.batch_enforced.specs.EnforcedPlans.{IsEnforcementRefusal};
     ghost use Rattle.batch_enforced.specs.HeightBounds.{BoundsConstrainedTraces};
-    ghost use Rattle.batch_enforced.specs.Weights.{IsWeightRefusal, ProvidesOverConstrained, queries_of};
+    ghost use Rattle.batch_enforced.specs.Weights.{EnforceAllWeights, IsWeightRefusal, ProvidesOverConstrained, queries_of};
 
     /// The plan of these AIRs, whose traces have these heights, with the constraints of each AIR. Any constraints
     /// of an AIR may be left out: its flags are then shown from those that are there.
@@ -93,8 +93,8 @@ impl<F: Field> EnforcedPlan<F> {
     /// `queries` says of each tuple whether it is a query: AIR by AIR and lookup by lookup, true for a query and false
     /// for a provided entry.
     ///
-    /// If so, whatever traces fit the plan on which the constraints hold: if their messages balance, each key whose
-    /// queries do not sum to zero, in whole numbers, is provided.
+    /// If so, over all traces that fit the plan and on which the constraints hold: if their messages balance, each key
+    /// whose queries do not sum to zero, in whole numbers, is provided.
     ///
     /// Refuses the first of these that fails:
     ///
@@ -110,7 +110,9 @@ impl<F: Field> EnforcedPlan<F> {
         queries: &[Vec<Vec<bool>>],
     ) -> Result<(), WeightError>
         ensures { MatchResult result
-            (λ _. (length queries.now ≡ length (plan_of self.now.plan).airs)
+            (λ _. EnforceAllWeights F.ring F.eq (queries_of queries.now)
+            (constraints_of self.now.constraints.items) (plan_of self.now.plan).airs (plan_of self.now.plan).heights
+            × (length queries.now ≡ length (plan_of self.now.plan).airs)
             × ProvidesOverConstrained F.ring F.eq (plan_of self.now.plan)
             (constraints_of self.now.constraints.items) (queries_of queries.now))
             (IsWeightRefusal F.ring F.eq (queries_of queries.now) (constraints_of self.now.constraints.items)

@@ -57,7 +57,7 @@ fn enforcement<F: Field>(
 /// The first thing that is not shown of the flags of each lookup of an AIR, on all rows of traces of this height on which
 /// its constraints hold: nothing where the flags are shown to be lawful, and of a lookup without flags.
 ///
-/// It is what [`enforcements`] has of them, without the bounds. Fails only when out of memory.
+/// [`enforcements`] has them with bounds. Fails only when out of memory.
 pub fn missing_flags<F: Field>(
     alloc: Global,
     constraints: &[SymbolicExpression<F>],
@@ -79,7 +79,7 @@ pub fn missing_flags<F: Field>(
 /// What the constraints of an AIR are shown to enforce of each of its lookups, on all rows of traces of this height on
 /// which they hold.
 ///
-/// Any of the AIR's constraints may be left out: more is shown with them. What is looked for is in the README of the
+/// Any of the AIR's constraints may be left out: less may be shown then. What is looked for is in the README of the
 /// crate. Fails only when out of memory.
 pub fn enforcements<F: Field>(
     alloc: Global,

@@ -1,5 +1,5 @@
 //! The lookups and the constraints of one evaluation of an AIR.
-ghost use Rattle.std.specs.Prelude.{◌≡◌, OnOk};
+ghost use Rattle.std.specs.Prelude.{◌≡◌, ◌<◌, OnOk};
 
 use super::{IS_REAL, IS_WRITE, holds};
 use air::{Air, AirBuilder, AirError, BaseAir, Expression, current_cell};
@@ -52,6 +52,7 @@ fn assert_bit<AB: AirBuilder>(
     builder: &mut AB,
     column: usize,
 ) -> Result<(), AirError>
+    requires { column < 3 }
     ensures { OnOk result (AB.layout builder.new ≡ AB.layout builder.old) }
 {
     let bit = current_cell(alloc, builder, 3, column)?;

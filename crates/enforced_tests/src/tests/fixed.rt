@@ -11,7 +11,7 @@ use matrix::RowMajorMatrix;
 use std::alloc::Global;
 use std::process::Abort;
 
-/// Rows 0 and 1 are told apart by a column each; a third column counts from 0, and the fourth is 1 on rows 1 and 2.
+/// Columns 0 and 1 are 1 on rows 0 and 1 alone; the third one counts from 0, and the fourth is 1 on rows 1 and 2.
 fn fixed(rt: &impl Abort, alloc: Global) -> RowMajorMatrix<F7> {
     let rows = [1, 0, 0, 0, 0, 1, 1, 1, 0, 0, 2, 1, 0, 0, 3, 0];
     trace_of(alloc, rows.as_slice(), 4).expect(rt, "four rows")
@@ -84,8 +84,8 @@ fn fixed_flags(rt: HostRuntime) {
     );
 }
 
-/// Two constraints for each column of zeros and ones, and two for each two of them that are apart. They hold on
-/// the trace.
+/// Two constraints for each column of zeros and ones, and two for each pair of them that is nowhere both one. They hold
+/// on the trace. A column that is missing has zeros alone, and so has its product with any other.
 #[test]
 fn fixed_constraints_hold(rt: HostRuntime) {
     let alloc = rt.alloc();
@@ -101,6 +101,12 @@ fn fixed_constraints_hold(rt: HostRuntime) {
         &rt,
         "they hold",
         check_constraints(known.as_slice(), &traces).is_ok(),
+    );
+    let missing = fixed_constraints(alloc, &trace, &[0, 0, 9]).expect(&rt, "memory");
+    holds(
+        &rt,
+        "one column twice, and a missing one",
+        missing.len() == 10,
     );
     let none = fixed_constraints::<F7>(alloc, &trace, &[]).expect(&rt, "memory");
     holds(&rt, "no columns", none.is_empty());

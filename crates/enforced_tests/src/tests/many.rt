@@ -14,7 +14,7 @@ fn cell(index: usize) -> Base {
     SymbolicVariable::new(BaseEntry::Main { offset: 0 }, index).into()
 }
 
-/// The sum of the first cells, as far as `end`, less the cell at `end`.
+/// The sum of the cells before `end`, less the cell at `end`.
 fn sum_less_last(alloc: Global, end: usize) -> Result<Base, AllocError> {
     let mut sum = Base::constant(BabyBear::ZERO);
     for index in 0..end {
@@ -34,7 +34,7 @@ fn one_hot(alloc: Global, count: usize) -> Result<Vec<Base>, AllocError> {
     Ok(constraints)
 }
 
-/// The first cells, as far as `count`.
+/// The first `count` cells.
 fn cells(alloc: Global, count: usize) -> Result<Vec<Base>, AllocError> {
     let mut cells = Vec::new(alloc);
     for index in 0..count {
@@ -68,7 +68,7 @@ fn are_shown(alloc: Global, constraints: &[Base], flags: Vec<Base>) -> Option<bo
     Some(shown.first()?.flags)
 }
 
-/// Three hundred operations, one of which is set at most.
+/// Three hundred operations, at most one of which is set.
 #[test]
 fn three_hundred_flags(rt: HostRuntime) {
     let alloc = rt.alloc();
@@ -87,8 +87,8 @@ fn sum_of(alloc: Global, start: usize, end: usize) -> Result<Base, AllocError> {
     Ok(sum)
 }
 
-/// Whether two sums of operations are shown to be lawful flags, of which one at most is set of two hundred. The first
-/// has those before 90, and the second those from `start` on, before 180.
+/// Of two hundred operations at most one is set. Whether two sums of them are shown to be lawful flags: of those before
+/// 90, and of those from `start` on, before 180.
 fn sums_are_shown(alloc: Global, start: usize) -> Option<bool> {
     let constraints = one_hot(alloc, 200).ok()?;
     let first = sum_of(alloc, 0, 90).ok()?;
@@ -105,7 +105,7 @@ fn sums_of_operations(rt: HostRuntime) {
     holds(&rt, "one of both", sums_are_shown(alloc, 89) == Some(false));
 }
 
-/// A product of sums that would have more than a million terms is left out.
+/// A product of sums that would take more than a million products of terms hides nothing that is beside it.
 #[test]
 fn a_large_product(rt: HostRuntime) {
     let alloc = rt.alloc();
@@ -124,8 +124,8 @@ fn a_large_product(rt: HostRuntime) {
     );
 }
 
-/// A constraint of a hundred thousand nodes: `a * (a - 1)`, added to itself again and again. It shows that the cell is
-/// a bit, as its half does.
+/// A constraint of 98,303 nodes: `a * (a - 1)`, added to itself again and again. It is a multiple of that, so the cell is
+/// a bit.
 #[test]
 fn a_hundred_thousand_nodes(rt: HostRuntime) {
     let alloc = rt.alloc();

@@ -1,5 +1,5 @@
 //! AIRs drawn at random: what is shown of flags and of a count is so at every choice of cells at which the constraints
-//! are zero, on rows of each kind. Texts are those of `machines`, here read once more, by numbers.
+//! are zero, on rows of each kind. Texts are written as in `machines`, and read here a second time, to numbers.
 use super::holds;
 use super::machines::shown;
 use field::{F2, F7, Field};

@@ -24,6 +24,7 @@ returns g c =
     let All : Lists → List (Lookups _) → List ℕ → Type 0 = λ cs airs hs. EnforceAllWeights R eq queries (constraints_of cs) airs hs in
     MatchResult-weaker c.check_all_weights.result c.check_all_weights.ensures
     (λ done all. (
+      along All _ constraints _ plan.airs _ plan.heights c.as_slice-constraints.ensures.value c.airs-airs.ensures c.heights.ensures all,
       omega (arith, c.if-queries-airs.false, ap length c.airs-airs.ensures),
       λ traces fit hold. plan_provides R eq p plan self.plan.facts c.laws.ensures.heights (constraints_of constraints) queries traces fit
           (plan_weighed R eq p plan (constraints_of constraints) queries self.plan.facts asked
