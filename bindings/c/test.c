@@ -3772,11 +3772,11 @@ static void *run_deep(void *unused)
     return NULL;
 }
 
-/* what that expression enforces of itself as a flag and as a multiplicity: it is 0 */
+/* what that expression, which is 0, enforces of itself as a flag and as a multiplicity */
 static uint32_t enforce_deep(struct volgwain_refusal *refusal)
 {
     struct volgwain_span list = {0, 0};
-    struct volgwain_record record = {0, 1, 0, {0, 0}, {0, 1}, {0, 0}, {0, 0}};
+    struct volgwain_record record = {0, 1, 1, {0, 0}, {0, 1}, {0, 0}, {0, 0}};
     struct volgwain_tables tables = {deep.nodes, 0, &list, 1, NULL, 0, &record, 1};
     struct volgwain_enforced shown = {9, 9, 9, 9, 9};
     struct volgwain_bound bound = {9, 9};
@@ -3784,7 +3784,7 @@ static uint32_t enforce_deep(struct volgwain_refusal *refusal)
     uint32_t code;
     list.end = tables.nodes_length = record.multiplicities.end = record.flags.end = deep.length;
     code = volgwain_enforced(&tables, &list, 3, &query, 1, &shown, 1, &bound, 1, refusal, NULL, 0);
-    check(code != VOLGWAIN_OK || (is_shown(&shown, 1, 1, 0, 0, 0) && is_bound(&bound, 1, 0)),
+    check(code != VOLGWAIN_OK || (is_shown(&shown, 1, 1, 0, 0, 0) && bound.present == 1 && bound.bound <= 1),
         "what a deep constraint enforces");
     return code;
 }
