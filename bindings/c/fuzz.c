@@ -42,6 +42,8 @@ static struct {
     uint32_t main[HEIGHT * MAIN_WIDTH];
     uint32_t preprocessed[HEIGHT * PREPROCESSED_WIDTH];
     uint32_t public_values[PUBLIC_VALUES];
+    uint8_t queries[TUPLES];
+    struct volgwain_span constraints;
     struct volgwain_air air;
     struct volgwain_traces traces;
 } in;
@@ -119,6 +121,27 @@ static void add_record(void)
     record->flags = add_expressions(record->exclusive ? count : 0);
 }
 
+/* Constraints that a cell is 0 or 1, or some expressions. */
+static void add_constraints(void)
+{
+    size_t count = below(4);
+    in.constraints.start = in.air.tables.nodes_length;
+    for (size_t i = 0; i < count; i++) {
+        uint32_t row = (uint32_t)below(2);
+        size_t column = below(MAIN_WIDTH);
+        if (below(4) == 0) {
+            add_expression();
+            continue;
+        }
+        add_node(VOLGWAIN_MAIN, row, column);
+        add_node(VOLGWAIN_MAIN, row, column);
+        add_node(VOLGWAIN_CONSTANT, 1, 0);
+        add_node(VOLGWAIN_DIFFERENCE, 0, 0);
+        add_node(VOLGWAIN_PRODUCT, 0, 0);
+    }
+    in.constraints.end = in.air.tables.nodes_length;
+}
+
 /* A number that tends to be small, or immense. */
 static size_t some_number(void)
 {
@@ -132,8 +155,8 @@ static void spoil(void)
     struct volgwain_node *node = &in.nodes[below(NODES)];
     struct volgwain_record *record = &in.records[below(RECORDS)];
     struct volgwain_span *spans[] = {&record->bus, &record->tuples, &record->multiplicities, &record->flags,
-                                     &in.tuples[below(TUPLES)]};
-    struct volgwain_span *span = spans[below(5)];
+                                     &in.tuples[below(TUPLES)], &in.constraints};
+    struct volgwain_span *span = spans[below(6)];
     switch (below(12)) {
     case 0:
         node->kind = (uint32_t)some_number();
@@ -195,6 +218,9 @@ static void read_input(const uint8_t *data, size_t size)
     size_t records = below(RECORDS + 1), spoilt = below(8);
     for (size_t i = 0; i < records; i++)
         add_record();
+    add_constraints();
+    for (size_t i = 0; i < TUPLES; i++)
+        in.queries[i] = (uint8_t)(i % 3);
     for (size_t i = 4; i < spoilt; i++)
         spoil();
 }
@@ -218,6 +244,8 @@ static struct outputs {
     struct volgwain_table_sizes sizes;
     struct volgwain_element sum;
     struct volgwain_fit fit;
+    struct volgwain_enforced enforced[RECORDS];
+    struct volgwain_bound bounds[TUPLES];
     size_t numbers[NUMBERS], written;
 } out, before;
 
@@ -244,7 +272,7 @@ static uint32_t end(uint32_t code, const char *call)
 {
     struct volgwain_refusal none;
     memset(&none, 0, sizeof none);
-    must(code <= VOLGWAIN_UNLAWFUL_IDS, call);
+    must(code <= VOLGWAIN_NONZERO_CONSTRAINT, call);
     must(refusal.code == code, call);
     must(code != 0 || memcmp(&refusal, &none, sizeof none) == 0, call);
     must(code == 0 || memcmp(&out, &before, sizeof out) == 0, call);
@@ -278,6 +306,47 @@ static void try_tables(void)
         uint32_t code = CALL(degrees, &packed, 0, out.degrees, packed.records_length);
         must(is_one_of(code, VOLGWAIN_DEGREE_OVERFLOW, VOLGWAIN_OUT_OF_MEMORY), "packed lookups are lookups");
     }
+}
+
+/* ---- constraints ---- */
+
+static int shown_and_held = 0; /* inputs with flags that are enforced by constraints which hold */
+
+/* The laws of what is enforced: over no rows all is; with more constraints no less; and where the constraints hold, no
+   call refuses flags that are shown to be lawful. */
+static void try_constraints(void)
+{
+    const struct volgwain_tables *tables = &in.air.tables;
+    struct volgwain_enforced none[RECORDS], all[RECORDS];
+    struct volgwain_span nothing = {0, 0};
+    size_t lookups = tables->records_length, bounds = tables->tuples_length;
+    uint32_t held = CALL(check_constraints, tables, &in.constraints, &in.traces);
+    if (CALL(enforced, tables, &nothing, HEIGHT, in.queries, bounds, out.enforced, lookups, out.bounds, bounds) != 0)
+        return;
+    memcpy(none, out.enforced, sizeof none);
+    if (CALL(enforced, tables, &in.constraints, HEIGHT, in.queries, bounds, out.enforced, lookups, out.bounds, bounds)
+        != 0)
+        return;
+    memcpy(all, out.enforced, sizeof all);
+    for (size_t i = 0; i < lookups; i++) {
+        must(all[i].flags == 1 || none[i].flags == 0, "constraints only add to what is shown");
+        must((all[i].missing == 0) == (all[i].flags == 1), "something is missing where flags are not shown");
+    }
+    struct volgwain_element challenges[2 * RECORDS];
+    for (size_t i = 0; i < 2 * RECORDS; i++)
+        challenges[i] = i % 2 ? beta : alpha;
+    uint32_t code = CALL(generate, tables, &in.traces, challenges, 2 * lookups, out.auxiliary,
+                         lookups == 0 ? 0 : HEIGHT * (lookups + 1), &out.terminal);
+    int unlawful = code == VOLGWAIN_FLAG_NOT_BOOLEAN || code == VOLGWAIN_FLAGS_NOT_EXCLUSIVE;
+    must(held != 0 || !unlawful || all[refusal.lookup].flags == 0, "flags that are shown are lawful");
+    for (size_t i = 0; i < lookups; i++)
+        if (held == 0 && in.records[i].exclusive && all[i].flags == 1 && none[i].flags == 0) {
+            shown_and_held++;
+            break;
+        }
+    if (CALL(enforced, tables, &nothing, 0, in.queries, bounds, out.enforced, lookups, out.bounds, bounds) == 0)
+        for (size_t i = 0; i < lookups; i++)
+            must(out.enforced[i].flags == 1 && out.enforced[i].weight == 1, "over no rows all is shown");
 }
 
 /* ---- what is found ---- */
@@ -462,6 +531,7 @@ int LLVMFuzzerTestOneInput(const uint8_t *data, size_t size)
     read_input(data, size);
     try_tables();
     try_air();
+    try_constraints();
     try_findings();
 #ifdef FIXED_INPUTS
     return try_traces();
@@ -488,6 +558,7 @@ int main(void)
         proved += LLVMFuzzerTestOneInput(data, sizeof data);
     }
     must(proved > inputs / 10 && proved < inputs, "some of the inputs have a witness");
+    must(shown_and_held > 0, "some have flags that are enforced by constraints which hold");
     printf("fuzz: %d inputs, of which %d have a witness\n", inputs, proved);
     return 0;
 }

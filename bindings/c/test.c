@@ -1,6 +1,6 @@
 /* The calls of volgwain.h on small traces: their answers, each code but 14 and 23, which take billions of lookups
-   or messages, memory that runs out at each request, four threads at once, and a stack of
-   256 KB, or of 384 KB to read JSON. */
+   or messages, memory that runs out at each request, four threads at once, and a stack of 256 KB, of 384 KB to read
+   JSON, or of 1 MB to say what constraints enforce. */
 #define _POSIX_C_SOURCE 200809L
 #include "volgwain.h"
 
@@ -52,6 +52,8 @@ static void check_sizes(void)
     SIZE(grid, 40);
     SIZE(rows, 24);
     SIZE(fit, 56);
+    SIZE(enforced, 24);
+    SIZE(bound, 16);
 }
 
 /* ---- arrays without items, which are NULL ---- */
@@ -71,6 +73,7 @@ static void check_null_airs(void)
     struct volgwain_terminal terminal = {1, {{1, 0, 0, 0}}};
     struct volgwain_element sum = {{1, 0, 0, 0}};
     struct volgwain_table_sizes written = {1, 1, 1, 1};
+    static const struct volgwain_span nothing = {0, 0};
     struct volgwain_fit fit = {9, 9, 9, 9, 9, 9, 9, 9};
     struct volgwain_refusal refusal;
     memset(&refusal, 0, sizeof refusal);
@@ -100,6 +103,10 @@ static void check_null_airs(void)
             && fit.reason == VOLGWAIN_FIT_OK && fit.preprocessed_height == 0,
         "fit_fault with NULL");
     check(volgwain_degrees(&no_tables, 0, NULL, 0, &refusal, NULL, 0) == VOLGWAIN_OK, "degrees with NULL");
+    check(volgwain_enforced(&no_tables, &nothing, 1, NULL, 0, NULL, 0, NULL, 0, &refusal, NULL, 0) == VOLGWAIN_OK,
+        "enforced with NULL");
+    check(volgwain_check_constraints(&no_tables, &nothing, &no_traces, &refusal, NULL, 0) == VOLGWAIN_OK,
+        "check_constraints with NULL");
     check(volgwain_pack(&no_tables, 3, NULL, 0, NULL, 0, NULL, 0, NULL, 0, &written, &refusal, NULL, 0)
                 == VOLGWAIN_OK
             && written.nodes + written.tuples + written.names + written.records == 0,
@@ -186,7 +193,7 @@ static void check_null_batches(void)
 
 static void check_abi(void)
 {
-    check(VOLGWAIN_ABI == 2 && volgwain_abi_2() == 2, "the number of the interface");
+    check(VOLGWAIN_ABI == 3 && volgwain_abi_3() == 3, "the number of the interface");
 }
 
 /* ---- memory: how many blocks are live, how many were asked for, and which requests are refused ---- */
@@ -687,6 +694,299 @@ static void check_no_rows(void)
     it.witness.auxiliary_length = it.witness.width = 0;
     it.witness.terminal.present = 0;
     check(verify_air(&it) == VOLGWAIN_OK, "and verified");
+}
+
+/* ---- constraints: m, f and g are bits, and so is f + g ----
+
+   Columns 0 to 3 are m, f, g and k. Lookup 0 sends [m] where f is set and where g is, both times as a query; lookup 1
+   likewise on the first and on the last row. Lookup 2 queries [m], m times, and provides [k], k times; lookup 3 queries
+   [m] as often as a constant says, which is -1. */
+
+#define LAWS 13 /* the first node of the constraints, of which each but the last has five */
+
+static const struct volgwain_node law_nodes[] = {
+    {VOLGWAIN_MAIN, 0, 0}, {VOLGWAIN_MAIN, 0, 3},                                      /* the tuples [m] and [k] */
+    {VOLGWAIN_CONSTANT, 1, 0}, {VOLGWAIN_CONSTANT, 1, 0},                              /* 1, 1 */
+    {VOLGWAIN_MAIN, 0, 1}, {VOLGWAIN_MAIN, 0, 2},                                      /* f, g */
+    {VOLGWAIN_FIRST_ROW, 0, 0}, {VOLGWAIN_LAST_ROW, 0, 0},
+    {VOLGWAIN_MAIN, 0, 0}, {VOLGWAIN_MAIN, 0, 3}, {VOLGWAIN_NEGATION, 0, 0},           /* m, -k */
+    {VOLGWAIN_CONSTANT, 2013265920, 0},                                                /* -1, over BabyBear */
+    {11, 0, 0},                                                                        /* no node */
+    {VOLGWAIN_MAIN, 0, 0}, {VOLGWAIN_MAIN, 0, 0}, {VOLGWAIN_CONSTANT, 1, 0}, {VOLGWAIN_DIFFERENCE, 0, 0},
+    {VOLGWAIN_PRODUCT, 0, 0},                                                          /* m * (m - 1) */
+    {VOLGWAIN_MAIN, 0, 1}, {VOLGWAIN_MAIN, 0, 1}, {VOLGWAIN_CONSTANT, 1, 0}, {VOLGWAIN_DIFFERENCE, 0, 0},
+    {VOLGWAIN_PRODUCT, 0, 0},                                                          /* f * (f - 1) */
+    {VOLGWAIN_MAIN, 0, 2}, {VOLGWAIN_MAIN, 0, 2}, {VOLGWAIN_CONSTANT, 1, 0}, {VOLGWAIN_DIFFERENCE, 0, 0},
+    {VOLGWAIN_PRODUCT, 0, 0},                                                          /* g * (g - 1) */
+    {VOLGWAIN_MAIN, 0, 1}, {VOLGWAIN_MAIN, 0, 2}, {VOLGWAIN_SUM, 0, 0},
+    {VOLGWAIN_MAIN, 0, 1}, {VOLGWAIN_MAIN, 0, 2}, {VOLGWAIN_SUM, 0, 0},
+    {VOLGWAIN_CONSTANT, 1, 0}, {VOLGWAIN_DIFFERENCE, 0, 0},
+    {VOLGWAIN_PRODUCT, 0, 0}};                                                         /* (f + g) * (f + g - 1) */
+
+struct laws {
+    struct volgwain_span tuples[7];
+    uint8_t queries[7];
+    struct volgwain_record records[4];
+    uint32_t main[12];
+    uint32_t preprocessed[2];
+    struct volgwain_tables tables;
+    struct volgwain_span constraints;
+    struct volgwain_traces traces;
+    size_t height;
+    size_t queries_length;
+    struct volgwain_enforced shown[4];
+    size_t shown_length;
+    struct volgwain_bound bounds[7];
+    size_t bounds_length;
+    struct volgwain_refusal refusal;
+    char text[200];
+};
+
+static void make_laws(struct laws *it)
+{
+    static const struct laws made = {
+        {{0, 1}, {0, 1}, {0, 1}, {0, 1}, {0, 1}, {1, 2}, {0, 1}},
+        {1, 1, 1, 1, 1, 0, 255},
+        {{0, 1, 1, {0, 0}, {0, 2}, {2, 4}, {4, 6}}, {0, 1, 1, {0, 0}, {2, 4}, {2, 4}, {6, 8}},
+            {0, 0, 1, {0, 0}, {4, 6}, {8, 11}, {0, 0}}, {0, 0, 1, {0, 0}, {6, 7}, {11, 12}, {0, 0}}},
+        {1, 1, 0, 5, 1, 0, 1, 7, 0, 0, 0, 9},
+        {1, 2},
+        {NULL, 0, NULL, 0, NULL, 0, NULL, 0},
+        {LAWS, COUNT(law_nodes)},
+        {NULL, 12, 4, NULL, 0, 0, NULL, 0},
+        3,
+        7,
+        {{9, 9, 9, 9, 9}, {9, 9, 9, 9, 9}, {9, 9, 9, 9, 9}, {9, 9, 9, 9, 9}},
+        4,
+        {{9, 9}, {9, 9}, {9, 9}, {9, 9}, {9, 9}, {9, 9}, {9, 9}},
+        7,
+        {9, 9, 9, 9, 9, 9, 9, 9},
+        ""};
+    *it = made;
+    it->tables.nodes = law_nodes;
+    it->tables.nodes_length = COUNT(law_nodes);
+    it->tables.tuples = it->tuples;
+    it->tables.tuples_length = COUNT(it->tuples);
+    it->tables.records = it->records;
+    it->tables.records_length = COUNT(it->records);
+    it->traces.main = it->main;
+    it->traces.preprocessed = it->preprocessed;
+    it->traces.public_values = it->main;
+}
+
+typedef uint32_t enforcing(const struct volgwain_tables *tables, const struct volgwain_span *constraints,
+    size_t height, const uint8_t *queries, size_t queries_length, struct volgwain_enforced *shown,
+    size_t shown_length, struct volgwain_bound *bounds, size_t bounds_length, struct volgwain_refusal *refusal,
+    char *text, size_t text_size);
+
+static uint32_t enforce_by(struct laws *it, enforcing *call)
+{
+    return call(&it->tables, &it->constraints, it->height, it->queries, it->queries_length, it->shown,
+        it->shown_length, it->bounds, it->bounds_length, &it->refusal, it->text, sizeof it->text);
+}
+
+static uint32_t enforce(struct laws *it)
+{
+    return enforce_by(it, volgwain_enforced);
+}
+
+static uint32_t check_laws(struct laws *it)
+{
+    return volgwain_check_constraints(
+        &it->tables, &it->constraints, &it->traces, &it->refusal, it->text, sizeof it->text);
+}
+
+static int is_shown(const struct volgwain_enforced *it, uint32_t flags, uint32_t weight, uint32_t missing,
+    uint32_t rows, size_t flag)
+{
+    return it->flags == flags && it->weight == weight && it->missing == missing && it->rows == rows
+        && it->flag == flag;
+}
+
+static int is_bound(const struct volgwain_bound *it, uint32_t present, uint64_t bound)
+{
+    return it->present == present && it->bound == bound;
+}
+
+/* all that is shown of the four lookups from all constraints; whether -1 is one of the small numbers that have a bound
+   depends on the field */
+static int is_all_shown(const struct laws *it, uint32_t has_last)
+{
+    return it->refusal.code == 0 && is_shown(&it->shown[0], 1, 1, 0, 0, 0) && is_shown(&it->shown[1], 1, 1, 0, 0, 0)
+        && is_shown(&it->shown[2], 1, 1, 0, 0, 0) && is_shown(&it->shown[3], 1, has_last, 0, 0, 0)
+        && is_bound(&it->bounds[0], 1, 1) && is_bound(&it->bounds[1], 1, 1) && is_bound(&it->bounds[2], 1, 1)
+        && is_bound(&it->bounds[3], 1, 1) && is_bound(&it->bounds[4], 1, 1) && is_bound(&it->bounds[5], 0, 0)
+        && is_bound(&it->bounds[6], has_last, has_last);
+}
+
+static void check_enforced(void)
+{
+    struct laws it;
+    make_laws(&it);
+    check(enforce(&it) == VOLGWAIN_OK && is_all_shown(&it, 1), "all that is shown");
+    make_laws(&it);
+    it.height = 2;
+    check(enforce(&it) == VOLGWAIN_OK && is_all_shown(&it, 1), "all that is shown over two rows");
+    /* the only row is the first one and the last one */
+    make_laws(&it);
+    it.height = 1;
+    check(enforce(&it) == VOLGWAIN_OK && is_shown(&it.shown[0], 1, 1, 0, 0, 0)
+            && is_shown(&it.shown[1], 0, 0, VOLGWAIN_MISSING_EXCLUSIVE, VOLGWAIN_ROWS_ONLY, 0),
+        "selectors as flags over one row");
+    /* there their queries may add up to 2 */
+    make_laws(&it);
+    it.height = 1;
+    it.records[1].weight = 2;
+    check(enforce(&it) == VOLGWAIN_OK
+            && is_shown(&it.shown[1], 0, 1, VOLGWAIN_MISSING_EXCLUSIVE, VOLGWAIN_ROWS_ONLY, 0),
+        "flags that are not shown, and a weight that is");
+    make_laws(&it);
+    it.height = 0;
+    check(enforce(&it) == VOLGWAIN_OK && is_shown(&it.shown[1], 1, 1, 0, 0, 0) && is_bound(&it.bounds[5], 1, 0),
+        "all over no rows");
+    /* without the last constraint both may be set */
+    make_laws(&it);
+    it.constraints.end = LAWS + 15;
+    check(enforce(&it) == VOLGWAIN_OK
+            && is_shown(&it.shown[0], 0, 0, VOLGWAIN_MISSING_EXCLUSIVE, VOLGWAIN_ROWS_FIRST, 0)
+            && is_shown(&it.shown[1], 1, 1, 0, 0, 0) && is_shown(&it.shown[2], 1, 1, 0, 0, 0),
+        "flags that are not exclusive");
+    /* with m alone f is no bit, and then with m and f it is g */
+    make_laws(&it);
+    it.constraints.end = LAWS + 5;
+    check(enforce(&it) == VOLGWAIN_OK
+            && is_shown(&it.shown[0], 0, 0, VOLGWAIN_MISSING_FLAG, VOLGWAIN_ROWS_FIRST, 0),
+        "a first flag that is no bit");
+    it.constraints.end = LAWS + 10;
+    it.height = 1;
+    check(enforce(&it) == VOLGWAIN_OK
+            && is_shown(&it.shown[0], 0, 0, VOLGWAIN_MISSING_FLAG, VOLGWAIN_ROWS_ONLY, 1),
+        "a second flag that is no bit");
+    /* no constraint of m, so none of how often it is queried */
+    make_laws(&it);
+    it.constraints.start = LAWS + 5;
+    check(enforce(&it) == VOLGWAIN_OK && is_shown(&it.shown[2], 1, 0, 0, 0, 0) && is_bound(&it.bounds[4], 0, 0),
+        "a query without a bound");
+}
+
+static void check_roles(void)
+{
+    struct laws it;
+    /* the entry is a query as well: it has no bound */
+    make_laws(&it);
+    it.queries[5] = 1;
+    check(enforce(&it) == VOLGWAIN_OK && is_shown(&it.shown[2], 1, 0, 0, 0, 0), "an entry as a query");
+    make_laws(&it);
+    it.queries[4] = 0;
+    it.records[2].weight = 0;
+    check(enforce(&it) == VOLGWAIN_OK && is_shown(&it.shown[2], 1, 1, 0, 0, 0), "no query, and no weight");
+    make_laws(&it);
+    it.records[2].weight = 0;
+    it.records[3].weight = 0;
+    check(enforce(&it) == VOLGWAIN_OK && is_shown(&it.shown[2], 1, 0, 0, 0, 0)
+            && is_shown(&it.shown[3], 1, 0, 0, 0, 0),
+        "queries past their weight");
+    make_laws(&it);
+    it.queries[0] = it.queries[1] = 0;
+    it.records[0].weight = 0;
+    check(enforce(&it) == VOLGWAIN_OK && is_shown(&it.shown[0], 1, 1, 0, 0, 0), "entries of flags");
+}
+
+static void check_unshown(struct laws *it, const char *what, uint32_t code, uint32_t part, size_t row,
+    size_t expected, size_t actual)
+{
+    struct laws before;
+    make_laws(&before);
+    check(enforce(it) == code && it->refusal.code == code && it->refusal.part == part && it->refusal.row == row
+            && it->refusal.expected == expected && it->refusal.actual == actual
+            && memcmp(it->shown, before.shown, sizeof before.shown) == 0
+            && memcmp(it->bounds, before.bounds, sizeof before.bounds) == 0,
+        what);
+}
+
+static void check_refused_laws(void)
+{
+    struct laws it;
+    make_laws(&it);
+    it.records[1].exclusive = 2;
+    check_unshown(&it, "a bad record with constraints", VOLGWAIN_BAD_TABLE, 4, 0, 0, 0);
+    check(it.refusal.lookup == 1, "the bad record");
+    make_laws(&it);
+    it.records[2].multiplicities.end = 9;
+    check_unshown(&it, "a malformed lookup with constraints", VOLGWAIN_MALFORMED_LOOKUP, 0, 0, 0, 0);
+    check(it.refusal.lookup == 2, "the malformed lookup");
+    make_laws(&it);
+    it.constraints.start = LAWS - 1;
+    check_unshown(&it, "a bad node of constraints", VOLGWAIN_BAD_CONSTRAINTS, 1, LAWS - 1, 0, 0);
+    check(has_text(&it.refusal, it.text, "constraints: node 12 ends no expression"), "the text of bad constraints");
+    make_laws(&it);
+    it.constraints.end = COUNT(law_nodes) + 1;
+    check_unshown(&it, "constraints past the nodes", VOLGWAIN_BAD_CONSTRAINTS, 2, 0, 0, 0);
+    make_laws(&it);
+    it.queries_length = 6;
+    check_unshown(&it, "too few queries", VOLGWAIN_BAD_LENGTH, VOLGWAIN_PART_QUERIES, 0, 7, 6);
+    check(has_text(&it.refusal, it.text, "queries: expected 7, got 6"), "the text of too few queries");
+    make_laws(&it);
+    it.shown_length = 3;
+    check_unshown(&it, "too few answers", VOLGWAIN_BAD_LENGTH, VOLGWAIN_PART_ENFORCED, 0, 4, 3);
+    make_laws(&it);
+    it.bounds_length = 6;
+    check_unshown(&it, "too few bounds", VOLGWAIN_BAD_LENGTH, VOLGWAIN_PART_BOUNDS, 0, 7, 6);
+}
+
+static void check_nonzero(struct laws *it, const char *what, uint32_t code, uint32_t part, size_t row,
+    size_t constraint)
+{
+    check(check_laws(it) == code && it->refusal.code == code && it->refusal.part == part && it->refusal.row == row
+            && it->refusal.lookup == constraint,
+        what);
+}
+
+static void check_constraints(void)
+{
+    struct laws it;
+    make_laws(&it);
+    check_nonzero(&it, "constraints that hold", VOLGWAIN_OK, 0, 0, 0);
+    /* g is set with f on row 0: their sum is 2 */
+    it.main[2] = 1;
+    check_nonzero(&it, "flags that are both set", VOLGWAIN_NONZERO_CONSTRAINT, 0, 0, 3);
+    check(has_text(&it.refusal, it.text, "constraint 3 is not zero on row 0"), "the text of a constraint");
+    it.constraints.end = LAWS + 15;
+    check_nonzero(&it, "without the constraint that fails", VOLGWAIN_OK, 0, 0, 0);
+    /* of f and m on row 2 it is m, and row 1 is before it */
+    make_laws(&it);
+    it.main[8] = 2;
+    it.main[9] = 3;
+    check_nonzero(&it, "the first constraint of a row", VOLGWAIN_NONZERO_CONSTRAINT, 0, 2, 0);
+    it.main[6] = 4;
+    check_nonzero(&it, "the first row", VOLGWAIN_NONZERO_CONSTRAINT, 0, 1, 2);
+    it.traces.main_length = 0;
+    check_nonzero(&it, "constraints over no rows", VOLGWAIN_OK, 0, 0, 0);
+}
+
+static void check_refused_constraints(void)
+{
+    struct laws it;
+    make_laws(&it);
+    it.records[1].exclusive = 2;
+    check_nonzero(&it, "a bad record that is not read", VOLGWAIN_OK, 0, 0, 0);
+    it.constraints.start = LAWS - 1;
+    it.main[0] = VOLGWAIN_MODULUS;
+    check_nonzero(&it, "bad constraints to be checked", VOLGWAIN_BAD_CONSTRAINTS, 1, LAWS - 1, 0);
+    it.constraints.start = LAWS;
+    check_nonzero(&it, "a large cell", VOLGWAIN_BAD_NUMBER, VOLGWAIN_PART_MAIN, 0, 0);
+    it.traces.main_length = 11;
+    check_nonzero(&it, "no whole rows", VOLGWAIN_NO_WHOLE_ROWS, VOLGWAIN_PART_MAIN, 0, 0);
+    make_laws(&it);
+    it.traces.main_width = 2;
+    check_nonzero(&it, "a column that is not there", VOLGWAIN_DOES_NOT_FIT, 0, 0, 0);
+    check(has_text(&it.refusal, it.text,
+              "a constraint reads past the traces, or a row that is neither this one nor the next"),
+        "the text of constraints that do not fit");
+    make_laws(&it);
+    it.traces.preprocessed_length = 2;
+    it.traces.preprocessed_width = 1;
+    check_nonzero(&it, "another height", VOLGWAIN_OTHER_HEIGHT, VOLGWAIN_PART_PREPROCESSED, 0, 0);
 }
 
 /* ---- two AIRs on a bus: keys 3 and 3, and the entries 3, used twice, and 4, never used ---- */
@@ -2780,6 +3080,27 @@ static void check_koala_checks(void)
     check_told(&two, volgwain_koala_bear_bus_table, "half of the modulus", halves, COUNT(halves));
 }
 
+/* The number that is -1 over BabyBear is -117440513 here: not small, and no power of two, so it has no bound. */
+static void check_koala_laws(void)
+{
+    struct laws it;
+    make_laws(&it);
+    check(enforce_by(&it, volgwain_koala_bear_enforced) == VOLGWAIN_OK && is_all_shown(&it, 0),
+        "all that is shown over KoalaBear");
+    /* 2013265921 is no zero here */
+    it.main[0] = VOLGWAIN_MODULUS;
+    check(volgwain_koala_bear_check_constraints(&it.tables, &it.constraints, &it.traces, &it.refusal, it.text,
+              sizeof it.text)
+                == VOLGWAIN_NONZERO_CONSTRAINT
+            && it.refusal.row == 0 && it.refusal.lookup == 0,
+        "a constraint over KoalaBear");
+    it.main[0] = 1;
+    check(volgwain_koala_bear_check_constraints(&it.tables, &it.constraints, &it.traces, &it.refusal, it.text,
+              sizeof it.text)
+            == VOLGWAIN_OK,
+        "constraints that hold over KoalaBear");
+}
+
 /* ---- memory that runs out ---- */
 
 static uint32_t try_generate(void)
@@ -2984,6 +3305,27 @@ static uint32_t try_fit_fault(void)
     code = fit_fault(&it, &fit);
     check(fit.reason == (code == VOLGWAIN_OK ? VOLGWAIN_FIT_OK : 0x09090909u), "a fit without memory");
     return code;
+}
+
+static uint32_t try_enforced(void)
+{
+    struct laws it, before;
+    uint32_t code;
+    make_laws(&it);
+    make_laws(&before);
+    code = enforce(&it);
+    check(code == VOLGWAIN_OK ? is_all_shown(&it, 1)
+                              : memcmp(it.shown, before.shown, sizeof it.shown) == 0
+                  && memcmp(it.bounds, before.bounds, sizeof it.bounds) == 0,
+        "what is enforced without memory");
+    return code;
+}
+
+static uint32_t try_check_constraints(void)
+{
+    struct laws it;
+    make_laws(&it);
+    return check_laws(&it);
 }
 
 static uint32_t try_to_tell(telling *call, size_t count)
@@ -3358,6 +3700,10 @@ static uint32_t go_deep(struct volgwain_refusal *refusal)
     code = volgwain_fit_fault(&air.tables, &traces, &fit, refusal, text, 0);
     if (code != VOLGWAIN_OK)
         return code;
+    /* the expression is 3 or -3 */
+    code = volgwain_check_constraints(&air.tables, &tuple, &traces, refusal, text, 0);
+    if (code != VOLGWAIN_NONZERO_CONSTRAINT)
+        return code;
     /* a group of three numbers and five, with a tuple of five and a place of four; and the number of groups */
     code = volgwain_bus_table(&air.tables, 1, &traces, 1, 9, numbers, 20, &written, refusal, text, 0);
     if (code != VOLGWAIN_OK || written != 18)
@@ -3426,6 +3772,37 @@ static void *run_deep(void *unused)
     return NULL;
 }
 
+/* what that expression, which is 0, enforces of itself as a flag and as a multiplicity */
+static uint32_t enforce_deep(struct volgwain_refusal *refusal)
+{
+    struct volgwain_span list = {0, 0};
+    struct volgwain_record record = {0, 1, 1, {0, 0}, {0, 1}, {0, 0}, {0, 0}};
+    struct volgwain_tables tables = {deep.nodes, 0, &list, 1, NULL, 0, &record, 1};
+    struct volgwain_enforced shown = {9, 9, 9, 9, 9};
+    struct volgwain_bound bound = {9, 9};
+    uint8_t query = 1;
+    uint32_t code;
+    list.end = tables.nodes_length = record.multiplicities.end = record.flags.end = deep.length;
+    code = volgwain_enforced(&tables, &list, 3, &query, 1, &shown, 1, &bound, 1, refusal, NULL, 0);
+    check(code != VOLGWAIN_OK || (is_shown(&shown, 1, 1, 0, 0, 0) && bound.present == 1 && bound.bound <= 1),
+        "what a deep constraint enforces");
+    return code;
+}
+
+static void *run_deep_constraints(void *unused)
+{
+    struct volgwain_refusal refusal;
+    int leans_left;
+    (void)unused;
+    make_negations(DEEPEST);
+    check(enforce_deep(&refusal) == VOLGWAIN_OK, "a constraint of negations 1024 deep");
+    for (leans_left = 0; leans_left < 2; leans_left++) {
+        make_sums(DEEPEST, leans_left);
+        check(enforce_deep(&refusal) == VOLGWAIN_OK, "a constraint of sums 1024 deep");
+    }
+    return NULL;
+}
+
 static uint32_t read_negations(size_t levels, struct volgwain_refusal *refusal)
 {
     return read_deep("{\"Neg\":", "}", levels, refusal);
@@ -3472,6 +3849,11 @@ int main(void)
     check_refused_air();
     check_fits();
     check_no_rows();
+    check_enforced();
+    check_roles();
+    check_refused_laws();
+    check_constraints();
+    check_refused_constraints();
     check_proving();
     check_air_by_air();
     check_generation_by_ids();
@@ -3502,6 +3884,7 @@ int main(void)
     check_koala_airs();
     check_koala_tables();
     check_koala_checks();
+    check_koala_laws();
     check_chunks();
     check(live == 0, "nothing is leaked");
     make_middle(&accepted);
@@ -3523,12 +3906,15 @@ int main(void)
     check_memory("debug_check of a mismatch", try_mismatch);
     check_memory("verify_air", try_verify_air);
     check_memory("fit_fault", try_fit_fault);
+    check_memory("enforced", try_enforced);
+    check_memory("check_constraints", try_check_constraints);
     check_memory("bus_table", try_bus_table);
     check_memory("mismatch", try_mismatch_numbers);
     check_threads();
     check_memory_of_one_thread();
     check_stack(256, run_deep);
     check_stack(384, run_deep_json);
+    check_stack(1024, run_deep_constraints);
     if (failures == 0)
         printf("all calls answer as expected\n");
     return failures == 0 ? 0 : 1;

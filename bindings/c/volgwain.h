@@ -22,7 +22,7 @@
      cut may split a character, and after them a zero if there is room for one. `refusal->text_length` is the
      length of the whole in bytes, without the zero, and 0 where nothing was refused; then `text` stays as it
      was. So print the lesser of text_length and the room, and no more.
-   - Stack. A call needs at most 256 KB of it, and one that reads JSON 384 KB.
+   - Stack. A call needs at most 256 KB of it, one that reads JSON 384 KB, and volgwain_enforced 1 MB.
    - Threads. Calls may run at once, as long as what one of them writes no other reads or writes.
      malloc and its kin have to allow that. No call from a signal handler. */
 #ifndef VOLGWAIN_H
@@ -40,10 +40,10 @@ extern "C" {
 /* The number of the interface that this header declares. It changes with each struct, call or number here
    that changes. A library has it in the name of a call, which every program that includes this header asks
    its linker for: so an archive of another interface does not link. */
-#define VOLGWAIN_ABI 2
+#define VOLGWAIN_ABI 3
 
-/* Returns 2. */
-uint32_t volgwain_abi_2(void);
+/* Returns 3. */
+uint32_t volgwain_abi_3(void);
 
 #ifdef __GNUC__
 #ifdef __has_attribute
@@ -51,7 +51,7 @@ uint32_t volgwain_abi_2(void);
 __attribute__((retain)) /* also where sections that nothing reads are removed */
 #endif
 #endif
-__attribute__((used)) static uint32_t (*const volgwain_abi)(void) = volgwain_abi_2;
+__attribute__((used)) static uint32_t (*const volgwain_abi)(void) = volgwain_abi_3;
 #endif
 
 /* Stands before each call whose answer has to be looked at. */
@@ -183,6 +183,7 @@ enum {
                                    where there are cells */
     VOLGWAIN_DOES_NOT_FIT = 6,  /* air: a lookup has lists of different lengths, or reads past the traces, or a
                                    row that is neither this one nor the next one; volgwain_fit_fault says more.
+                                   So it is with a constraint, of which no call says more.
                                    Or there are lookups and no row, in the main trace or by the height in
                                    volgwain_plan: of that it tells nothing */
     VOLGWAIN_OTHER_HEIGHT = 7,  /* part, air: the preprocessed trace is not as high as the main one */
@@ -209,9 +210,13 @@ enum {
                                            volgwain_mismatch says it in numbers */
     VOLGWAIN_BAD_TEXT = 27,             /* a text is not JSON, or not that of lookups; the text of the refusal
                                            says why, and where */
-    VOLGWAIN_UNLAWFUL_IDS = 28          /* the AIRs have ids, but not one for each lookup, or they are not
+    VOLGWAIN_UNLAWFUL_IDS = 28,         /* the AIRs have ids, but not one for each lookup, or they are not
                                            shared exactly by the lookups on one bus */
-    /* 29 stands for refusals of the library that no call here can meet; that none does is only tested */
+    VOLGWAIN_BAD_CONSTRAINTS = 29,      /* part: what is wrong with the range of the constraints, 1, 2 or 3 as
+                                           for 2; of part 1 row is the node */
+    VOLGWAIN_NONZERO_CONSTRAINT = 30    /* row: the first row on which a constraint is not zero; lookup: the
+                                           first such constraint there, counted from 0 */
+    /* 31 stands for refusals of the library that no call here can meet; that none does is only tested */
 };
 
 /* Parts of a call, in refusal.part for the codes 3, 4, 5 and 7. */
@@ -234,7 +239,10 @@ enum {
     VOLGWAIN_PART_RECORDS = 16,
     VOLGWAIN_PART_ROWS = 17,  /* a range of rows, or the rows around it */
     VOLGWAIN_PART_OFFSET = 18, /* what rows are shifted by */
-    VOLGWAIN_PART_NUMBERS = 19 /* what volgwain_bus_table and volgwain_mismatch write */
+    VOLGWAIN_PART_NUMBERS = 19, /* what volgwain_bus_table and volgwain_mismatch write */
+    VOLGWAIN_PART_QUERIES = 20, /* which tuples are queries */
+    VOLGWAIN_PART_ENFORCED = 21, /* what volgwain_enforced writes for each lookup */
+    VOLGWAIN_PART_BOUNDS = 22    /* the bounds that it writes */
 };
 
 /* What was refused, and where: each code names the fields that it fills, and the others are 0. */
@@ -397,6 +405,83 @@ VOLGWAIN_MUST_CHECK uint32_t volgwain_read_json(const char *json, size_t json_le
     uint8_t *names, size_t names_length,
     struct volgwain_record *records, size_t records_length,
     struct volgwain_table_sizes *sizes,
+    struct volgwain_refusal *refusal, char *text, size_t text_size);
+
+/* ---- constraints ---- */
+
+/* The constraints of an AIR are expressions that its prover has to keep zero on each row. The calls below take them as
+   a range of nodes of the tables, a whole list of expressions, like the flags of a lookup. What they say is of these
+   constraints: what a prover checks and the list lacks is not seen, and what the list has and no prover checks makes
+   the answers void. Selectors are 0 and 1 here; in a prover that checks constraints where they are not, a selector
+   may stand in a constraint only as a factor of all of it. */
+
+/* On which rows something is not shown, in enforced.rows. */
+enum {
+    VOLGWAIN_ROWS_BETWEEN = 0, /* those between the first and the last one */
+    VOLGWAIN_ROWS_FIRST = 1,   /* the first one, of more than one */
+    VOLGWAIN_ROWS_LAST = 2,    /* the last one, of more than one */
+    VOLGWAIN_ROWS_ONLY = 3     /* the only one */
+};
+
+/* What is missing of the flags of a lookup, in enforced.missing: the first thing that is not shown, and on which
+   rows. */
+enum {
+    VOLGWAIN_MISSING_NOTHING = 0,
+    VOLGWAIN_MISSING_FLAG = 1,     /* rows, flag: that this flag is 0 or 1 */
+    VOLGWAIN_MISSING_EXCLUSIVE = 2 /* rows: that at most one flag is 1 */
+};
+
+/* What constraints are shown to enforce of a lookup. A field that does not apply is 0. */
+struct volgwain_enforced {
+    uint32_t flags;   /* 1 if the flags are shown to be lawful, each 0 or 1 and at most one 1, as those of a lookup
+                         without flags are; 0 if that is not shown */
+    uint32_t weight;  /* 1 if the queries are shown to stay within the weight; 0 if that is not shown */
+    uint32_t missing; /* why flags is 0 */
+    uint32_t rows;
+    size_t flag;
+};
+
+/* A bound of a multiplicity: it is a whole number times 1, whose absolute value is at most `bound`. */
+struct volgwain_bound {
+    uint32_t present; /* 1, or 0 if none is shown; then bound is 0 */
+    uint64_t bound;
+};
+
+/* Says what constraints are shown to enforce of the lookups of an AIR, on each row of traces of a height, whatever else
+   is in them, on which the constraints are zero. So it holds of all traces that any prover picks. What is not shown may
+   still be so: 0 never says that something is wrong.
+
+   constraints: the range of their nodes. Any may be left out: what is shown is then shown without them.
+   height: that of the traces. Over one row the first row is the last one too. Over none everything is shown.
+   queries: a byte for each range in tables->tuples, 0 where its tuple is provided, and any other where it is a query. A
+   lookup whose tuple is provided and one that queries it need ranges of their own.
+   shown: exactly one for each lookup, in their order.
+   bounds: exactly one for each multiplicity, those of the first lookup, then those of the second, and so on.
+
+   The weight of a lookup is kept if each query has a bound, and these bounds are at most the weight: each of them, if
+   the lookup has flags that are shown to be lawful, and otherwise their sum. Of a provided entry nothing is asked.
+   Where flags are 1 for all lookups of all AIRs of a batch, the bound of volgwain_soundness_of_heights holds with no
+   condition on flags, of all traces on which the constraints are zero.
+
+   Refuses, in this order: 2, 11, 29, and 4 of the queries, of what is shown and of the bounds. Or 1. */
+VOLGWAIN_MUST_CHECK uint32_t volgwain_enforced(const struct volgwain_tables *tables,
+    const struct volgwain_span *constraints,
+    size_t height,
+    const uint8_t *queries, size_t queries_length,
+    struct volgwain_enforced *shown, size_t shown_length,
+    struct volgwain_bound *bounds, size_t bounds_length,
+    struct volgwain_refusal *refusal, char *text, size_t text_size);
+
+/* Whether constraints are zero on each row of traces. Of the tables it reads the nodes alone, so lookups are neither
+   checked nor refused.
+
+   constraints: the range of their nodes.
+
+   Returns 0 exactly if they are, over traces that they fit, unless memory runs out. Over a main trace without rows they
+   are. Refuses, in this order: 29, 5 and 3 of a trace, 6, 7, and 30 at the first row on which one is not zero. Or 1. */
+VOLGWAIN_MUST_CHECK uint32_t volgwain_check_constraints(const struct volgwain_tables *tables,
+    const struct volgwain_span *constraints,
+    const struct volgwain_traces *traces,
     struct volgwain_refusal *refusal, char *text, size_t text_size);
 
 /* ---- a batch of AIRs ---- */
@@ -824,6 +909,17 @@ VOLGWAIN_MUST_CHECK uint32_t volgwain_koala_bear_read_json(const char *json, siz
     uint8_t *names, size_t names_length,
     struct volgwain_record *records, size_t records_length,
     struct volgwain_table_sizes *sizes,
+    struct volgwain_refusal *refusal, char *text, size_t text_size);
+VOLGWAIN_MUST_CHECK uint32_t volgwain_koala_bear_enforced(const struct volgwain_tables *tables,
+    const struct volgwain_span *constraints,
+    size_t height,
+    const uint8_t *queries, size_t queries_length,
+    struct volgwain_enforced *shown, size_t shown_length,
+    struct volgwain_bound *bounds, size_t bounds_length,
+    struct volgwain_refusal *refusal, char *text, size_t text_size);
+VOLGWAIN_MUST_CHECK uint32_t volgwain_koala_bear_check_constraints(const struct volgwain_tables *tables,
+    const struct volgwain_span *constraints,
+    const struct volgwain_traces *traces,
     struct volgwain_refusal *refusal, char *text, size_t text_size);
 
 #ifdef __cplusplus

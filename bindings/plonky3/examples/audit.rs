@@ -7,7 +7,7 @@ use p3_lookup::{InteractionBuilder, LookupBus, Lookups};
 use p3_matrix::Matrix;
 use p3_matrix::dense::RowMajorMatrix;
 use volgwain::Batch;
-use volgwain_plonky3::{Error, Extension, OwnedTraces, from_p3};
+use volgwain_plonky3::{Error, Extension, OwnedTraces, constraints_of, from_p3};
 
 /// Each row looks column 0 up in the table of columns 1 and 2, which are an entry and its uses.
 struct Keys;
@@ -33,6 +33,9 @@ fn audit(main: &RowMajorMatrix<BabyBear>) -> Result<(), Error> {
     println!("degrees {:?}, packed {:?}", air.degrees()?, air.pack(3)?.degrees()?);
     let batch = Batch::new([(&air, main.height())])?;
     println!("{:?}", batch.soundness_of_heights()?);
+    let constraints = constraints_of::<BabyBear, _>(&Keys);
+    println!("{} constraints are left out", constraints.left_out.len());
+    print!("{}", batch.enforced(&[constraints.taken])?);
     let owned = OwnedTraces::new(main, None, &[]);
     batch.debug_check(&[owned.traces()])?;
     println!("{:?}", batch.soundness_count(&[owned.traces()])?);

@@ -7,6 +7,8 @@
 //!   its traces. With both all calls of `volgwain` can be made: plans, witnesses, counts.
 //! - [`generate_permutation`] stands in for that of `LogUpGadget`, under any challenges, and
 //!   [`verify_permutation`] checks what a prover made under its own.
+//! - [`constraints_of`] has the constraints of an AIR, of which
+//!   [`Air::enforced`](volgwain::generic::Air::enforced) says what they enforce of its lookups.
 //! - [`challenges`], [`witness_from_p3`] and [`witness_to_p3`] lead from a witness of one crate to one
 //!   of the other.
 //!
@@ -55,6 +57,7 @@
 #![deny(missing_docs)]
 #![forbid(unsafe_code)]
 
+mod constraints;
 mod debug;
 mod error;
 mod field;
@@ -62,6 +65,9 @@ mod lookups;
 mod traces;
 mod witness;
 
+pub use constraints::{
+    Constraints, LeftOut, MOST_CONSTRAINT_NODES, MOST_DEGREE, Reason, constraints_of, selectors_in,
+};
 pub use debug::{bus_table, check_lookups, debug_check, mismatch};
 pub use error::Error;
 pub use field::{Extension, SharedField, element_from_p3, element_to_p3};

@@ -12,6 +12,8 @@ use volgwain::generic::{Air, Expr, Lookup};
 /// A set `p3_lookup::Lookups` can be given as `&lookups`. Expressions are the same node by node, with
 /// shared nodes written out; at most 1,024 layers and, in a list of expressions, 1,048,576 nodes.
 ///
+/// All tuples of a lookup count as queries, or none if its weight is 0: Plonky3's lookups do not say which are.
+///
 /// Refuses the first lookup whose column is not its place in the list, or that reads what `volgwain`
 /// has no word for, and then what [`Air::new`] refuses. Lists of different lengths are refused by the
 /// calls on the AIR.
@@ -46,7 +48,7 @@ fn expressions<F: SharedField>(list: &[SymbolicExpression<F>]) -> Option<Vec<Exp
     list.iter().map(expression).collect()
 }
 
-fn expression<F: SharedField>(root: &SymbolicExpression<F>) -> Option<Expr<F::Ours>> {
+pub(crate) fn expression<F: SharedField>(root: &SymbolicExpression<F>) -> Option<Expr<F::Ours>> {
     let mut known = true;
     let walked = Expr::walk(root, |node| {
         top(node).unwrap_or_else(|| {
@@ -59,7 +61,9 @@ fn expression<F: SharedField>(root: &SymbolicExpression<F>) -> Option<Expr<F::Ou
 
 /// What stands at the top of an expression.
 #[allow(unreachable_patterns)] // also what a later version of Plonky3 adds
-fn top<F: SharedField>(node: &SymbolicExpression<F>) -> Option<Shape<&SymbolicExpression<F>>> {
+pub(crate) fn top<F: SharedField>(
+    node: &SymbolicExpression<F>,
+) -> Option<Shape<&SymbolicExpression<F>>> {
     Some(match node {
         SymbolicExpression::Leaf(leaf) => leaf_of(leaf)?,
         SymbolicExpression::Add { x, y, .. } => Shape::Add(x, y),

@@ -3,7 +3,9 @@
 use crate::air::{self, Air};
 use crate::debug::{BusGroup, Mismatch};
 use crate::element::Element;
+use crate::enforced::BatchEnforced;
 use crate::error::Error;
+use crate::expr::Expr;
 use crate::ffi::{self, PlanSizes, Planned, PlannedIds};
 use crate::field::Field;
 use crate::memory::copies;
@@ -334,6 +336,47 @@ impl<F: Field> Batch<F> {
     /// [`Code::CountOverflow`]: crate::Code::CountOverflow
     pub fn soundness_of_heights(&self) -> Result<HeightSoundness, Error> {
         ffi::soundness_of_heights(&self.planned())
+    }
+
+    /// What the constraints of each AIR are shown to enforce of its lookups, at its height, as
+    /// [`Air::enforced`] says of one AIR. There is a list of constraints for each AIR, in their order.
+    ///
+    /// Where all flags are shown, the bound of [`soundness_of_heights`](Batch::soundness_of_heights) holds with no
+    /// condition on flags, of all traces on which the constraints are zero.
+    ///
+    /// ```
+    /// use volgwain::{Air, Batch, Expr, Lookup, Message};
+    ///
+    /// # fn main() -> Result<(), volgwain::Error> {
+    /// let flag = Expr::main(0);
+    /// let keys = Message::query([Expr::main(1)], 1).when(&flag);
+    /// let asks = Air::new([Lookup::exclusive_on_bus("keys", [keys])])?;
+    /// let entries = Message::provide([Expr::main(0)], Expr::main(1));
+    /// let provides = Air::new([Lookup::on_bus("keys", [entries])])?;
+    /// let batch = Batch::new([(&asks, 4), (&provides, 2)])?;
+    ///
+    /// let report = batch.enforced(&[vec![&flag * (&flag - 1)], vec![]])?;
+    /// assert!(report.all_flags() && report.all_weights());
+    /// // the second AIR has no constraints, and how often an entry is used has no bound
+    /// assert_eq!(report.airs[1][0].bounds, [None]);
+    /// # Ok(())
+    /// # }
+    /// ```
+    ///
+    /// Refuses another number of lists ([`Code::BadLength`]), and then the constraints of the first AIR of which
+    /// [`Air::enforced`] refuses them, with the AIR.
+    ///
+    /// [`Code::BadLength`]: crate::Code::BadLength
+    pub fn enforced<C: AsRef<[Expr<F>]>>(&self, constraints: &[C]) -> Result<BatchEnforced, Error> {
+        if constraints.len() != self.airs.len() {
+            return Err(Error::constraint_lists(self.airs.len(), constraints.len()));
+        }
+        let mut report = Vec::with_capacity(self.airs.len());
+        for (index, (air, height)) in zip(&self.airs, &self.heights).enumerate() {
+            let enforced = air.enforced(constraints[index].as_ref(), *height);
+            report.push(enforced.map_err(|refusal| refusal.of_air(index))?);
+        }
+        Ok(BatchEnforced { airs: report })
     }
 
     /// Counts at how many pairs of an alpha and a beta some witness is accepted, whoever makes it.

@@ -13,6 +13,8 @@
 //!   table.
 //! - A [`Batch`] has AIRs with the heights of their traces. It makes a [`Witness`], the auxiliary
 //!   traces and terminals, and verifies one, whoever made it.
+//! - [`Air::enforced`] and [`Batch::enforced`] say whether constraints enforce that the flags of lookups
+//!   are lawful and that their weights are kept.
 //!
 //! These names stand for types over `BabyBear`. The module [`koala_bear`] has the same names over
 //! `KoalaBear`, and [`generic`] the types over any [`Field`].
@@ -47,8 +49,8 @@
 //!
 //! All types are plain data, so they are [`Send`] and [`Sync`], and any number of threads may work
 //! on the same AIRs and batches at once. A large batch is worked on by as many threads as there are
-//! processors, or as [`Batch::with_threads`] says. A call needs at most 256 KB of stack, and one that
-//! reads JSON 384 KB. Where the library can get no memory, or there is none for what it writes, a call
+//! processors, or as [`Batch::with_threads`] says. A call needs at most 256 KB of stack, one that reads
+//! JSON 384 KB, and [`Air::enforced`] 1 MB. Where the library can get no memory, or there is none for what it writes, a call
 //! answers [`Code::OutOfMemory`]; `docs/guide/RUST_AND_C.md` lists what ends the program then.
 #![deny(missing_docs, unsafe_code, clippy::undocumented_unsafe_blocks)]
 
@@ -56,6 +58,7 @@ mod air;
 mod batch;
 mod debug;
 mod element;
+mod enforced;
 mod error;
 mod expr;
 mod ffi;
@@ -72,6 +75,7 @@ mod witness;
 pub use air::{bus_table, debug_check, mismatch};
 pub use batch::{GridCount, HeightSoundness, SoundnessCount};
 pub use debug::{BusGroup, GroupName, Mismatch, Place, UnbalancedTuple};
+pub use enforced::{BatchEnforced, Enforced, Missing, Rows};
 pub use error::{Code, Error, Part};
 pub use expr::{MOST_DEPTH, MOST_NODES};
 pub use field::{BabyBear, Field, KoalaBear};
@@ -152,9 +156,10 @@ pub mod koala_bear {
     use crate::{Field, KoalaBear, generic};
 
     pub use crate::{
-        BusGroup, Cell, Code, Error, FitFault, GridCount, GroupName, HeightSoundness, MOST_DEPTH,
-        MOST_NODES, Mismatch, Part, Place, Shape, SoundnessCount, Symbolic, Term, Trace, Traces,
-        UnbalancedTuple, bus_table, debug_check, mismatch,
+        BatchEnforced, BusGroup, Cell, Code, Enforced, Error, FitFault, GridCount, GroupName,
+        HeightSoundness, MOST_DEPTH, MOST_NODES, Mismatch, Missing, Part, Place, Rows, Shape,
+        SoundnessCount, Symbolic, Term, Trace, Traces, UnbalancedTuple, bus_table, debug_check,
+        mismatch,
     };
 
     types_over!(KoalaBear);

@@ -3,6 +3,7 @@ pub mod BatchLaws
 pub mod ByIdsLaws
 pub mod CellLaws
 pub mod ColumnChecks
+pub mod ConstraintLaws
 pub mod DebugLaws
 pub mod GenerateLaws
 pub mod GivenIdsLaws

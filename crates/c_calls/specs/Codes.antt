@@ -40,7 +40,9 @@ code_number code.DegreeOverflow = 25
 code_number code.Mismatch = 26
 code_number code.BadText = 27
 code_number code.UnlawfulIds = 28
-code_number code.Unmet = 29
+code_number code.BadConstraints = 29
+code_number code.NonzeroConstraint = 30
+code_number code.Unmet = 31
 
 -- the number of each fault of a record
 abbrev pub record_fault_number : RecordFault → ℕ
@@ -74,6 +76,9 @@ part_number part.Records = 16
 part_number part.Rows = 17
 part_number part.Offset = 18
 part_number part.Numbers = 19
+part_number part.Queries = 20
+part_number part.Enforced = 21
+part_number part.Bounds = 22
 
 -- the part of a call that a part of the traces is
 abbrev pub call_part_of : TracePart → Part

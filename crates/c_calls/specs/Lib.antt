@@ -1,9 +1,11 @@
 pub mod BatchTables
 pub mod CallAnswers
 pub mod Codes
+pub mod Constraints
 pub mod DebugCheck
 pub mod DebugNumbers
 pub mod Degrees
+pub mod Enforced
 pub mod FitFault
 pub mod Generate
 pub mod GenerateByIds

@@ -17,7 +17,7 @@ use Rattle.c_calls.specs.declared.codes.Part.TheVariants as part
 use Rattle.c_calls.specs.declared.codes.RecordFault.{RecordFault}
 use Rattle.c_calls.specs.declared.codes.RecordFault.TheVariants as record_fault
 use Rattle.c_calls.specs.declared.fault.Fault.{Fault}
-use Rattle.c_calls.specs.declared.fault.Fault.TheVariants.{Memory, Table, Traces, Large, Id, Width, Rows, Text, Length, Ragged, Misfit, Heights, Lookup, Mismatch, Batch}
+use Rattle.c_calls.specs.declared.fault.Fault.TheVariants.{Memory, Table, Traces, Large, Id, Width, Rows, Text, Length, Ragged, Misfit, Heights, Lookup, Mismatch, Batch, Constraints, UnfitConstraints, Nonzero}
 use Rattle.c_calls.specs.declared.refusal.Refusal.{Refusal}
 
 -- a refusal with its code by name
@@ -64,6 +64,8 @@ refusal_fields code.AuxiliaryHeight r = record (of_code code.AuxiliaryHeight) { 
 refusal_fields code.ConstraintFailed r = record (of_code code.ConstraintFailed) { air = r.air; row = r.row }
 refusal_fields code.WeightOverflow r = record (of_code code.WeightOverflow) { air = r.air }
 refusal_fields code.DegreeOverflow r = record (of_code code.DegreeOverflow) { air = r.air }
+refusal_fields code.BadConstraints r = record (of_code code.BadConstraints) { part = r.part; row = r.row }
+refusal_fields code.NonzeroConstraint r = record (of_code code.NonzeroConstraint) { row = r.row; lookup = r.lookup }
 refusal_fields code.Unmet r = record (of_code code.Unmet) { air = r.air }
 refusal_fields c r = of_code c
 
@@ -106,6 +108,10 @@ table_refusal a l table_fault.NameNotUtf8 = bad_table a l record_fault.Name
 table_refusal a l table_fault.TooDeep = bad_table a l record_fault.DeepExpression
 table_refusal a l table_fault.RowTooLarge = bad_table a l record_fault.LargeRow
 table_refusal a l table_fault.TooManyNodesWritten = bad_table a l record_fault.LongWrittenList
+
+-- the refusal of constraints, for what is wrong with their range, and where
+abbrev pub constraints_refusal : TableFault → CodedRefusal
+constraints_refusal fault = record (table_refusal 0 0 fault) { code = code.BadConstraints }
 
 -- the refusal of the traces of an AIR
 abbrev pub trace_refusal : ℕ → TraceFault → CodedRefusal
@@ -169,6 +175,9 @@ refusal_of (Heights air) = bad_rows code.OtherHeight part.Preprocessed air
 refusal_of (Lookup air error) = lookup_refusal air error
 refusal_of (Mismatch line) = of_code code.Mismatch
 refusal_of (Batch error) = batch_refusal error
+refusal_of (Constraints fault) = constraints_refusal fault
+refusal_of UnfitConstraints = of_air code.DoesNotFit 0
+refusal_of (Nonzero fault) = on_row code.NonzeroConstraint 0 fault.row fault.constraint
 
 -- a field that the code of a refusal lacks is 0
 abbrev pub HasRefusalFields : CodedRefusal → Type 0

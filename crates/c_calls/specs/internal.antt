@@ -1,5 +1,6 @@
 -- What contracts of private functions and proofs are stated with. No public contract rests on it.
 pub mod Batches
+pub mod Enforced
 pub mod Faults
 pub mod Generate
 pub mod Packing

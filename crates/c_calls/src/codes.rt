@@ -35,11 +35,13 @@ pub(crate) enum Code {
     Mismatch = 26,
     BadText = 27,
     UnlawfulIds = 28,
+    BadConstraints = 29,
+    NonzeroConstraint = 30,
     /// A refusal that no call can meet, which the header has no name for.
-    Unmet = 29,
+    Unmet = 31,
 }
 
-/// What is wrong with a record: the part of `BadTable`.
+/// What is wrong with a record: the part of `BadTable`, and of `BadConstraints`.
 #[derive(Clone, Copy)]
 pub(crate) enum RecordFault {
     Node = 1,
@@ -93,6 +95,12 @@ pub enum Part {
     Offset = 18,
     /// The numbers of a table of groups, or of a mismatch.
     Numbers = 19,
+    /// Which tuples are queries.
+    Queries = 20,
+    /// What is shown of each lookup.
+    Enforced = 21,
+    /// The bounds of multiplicities.
+    Bounds = 22,
 }
 
 impl fmt::Display for Part {
@@ -117,6 +125,9 @@ impl fmt::Display for Part {
             Part::Rows => write!(f, "rows"),
             Part::Offset => write!(f, "offset"),
             Part::Numbers => write!(f, "numbers"),
+            Part::Queries => write!(f, "queries"),
+            Part::Enforced => write!(f, "answers for the lookups"),
+            Part::Bounds => write!(f, "bounds"),
         }
     }
 }

@@ -4,6 +4,7 @@ ghost use Rattle.c_calls.specs.declared.fault.Fault.TheVariants.{Batch, Memory};
 ghost use Rattle.c_calls.specs.internal.Faults.{IsLookupFault};
 
 use crate::codes::Part;
+use air_constraints::ConstraintFault;
 use batch::BatchError;
 use c_tables::{TableFault, TraceFault};
 use lookup::LookupError;
@@ -86,6 +87,17 @@ pub enum Fault {
     /// A refusal of a call on a plan.
     #[error("{0}")]
     Batch(BatchError),
+    /// A range of nodes is no list of constraints.
+    #[error("constraints: {fault}")]
+    Constraints {
+        fault: TableFault,
+    },
+    /// A constraint reads past the traces, or a row that is neither the current one nor the next.
+    #[error("a constraint reads past the traces, or a row that is neither this one nor the next")]
+    UnfitConstraints,
+    /// A constraint that is not zero on a row of the traces.
+    #[error("{0}")]
+    Nonzero(ConstraintFault),
 }
 
 impl From<BatchError> for Fault {

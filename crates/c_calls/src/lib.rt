@@ -12,10 +12,13 @@
 mod abi;
 mod batch_tables;
 mod bus_table;
+mod check_constraints;
 mod codes;
+mod constraints;
 mod debug_check;
 mod debug_numbers;
 mod degrees;
+mod enforced;
 mod fault;
 mod fit_fault;
 mod generate;
@@ -48,8 +51,10 @@ mod written_tables;
 
 pub use batch_tables::Air;
 pub use bus_table::volgwain_bus_table;
+pub use check_constraints::volgwain_check_constraints;
 pub use debug_check::volgwain_debug_check;
 pub use degrees::volgwain_degrees;
+pub use enforced::{Bound, Enforced, volgwain_enforced};
 pub use fit_fault::{Fit, volgwain_fit_fault};
 pub use generate::volgwain_generate;
 pub use generate_by_ids::volgwain_generate_by_ids;
@@ -64,7 +69,8 @@ pub use koala_bear::{
     volgwain_koala_bear_verify, volgwain_koala_bear_verify_rows,
 };
 pub use koala_bear_checks::{
-    volgwain_koala_bear_bus_table, volgwain_koala_bear_fit_fault, volgwain_koala_bear_mismatch,
+    volgwain_koala_bear_bus_table, volgwain_koala_bear_check_constraints,
+    volgwain_koala_bear_enforced, volgwain_koala_bear_fit_fault, volgwain_koala_bear_mismatch,
     volgwain_koala_bear_verify_air,
 };
 pub use mismatch::volgwain_mismatch;

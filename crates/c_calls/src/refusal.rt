@@ -1,7 +1,7 @@
 //! Refusals as C sees them.
 ghost use Rattle.std.specs.Prelude.{◌≡◌, ◌≢◌, ◌<◌, Some, length, slice_get};
 ghost use Rattle.c_calls.specs.Codes.{call_part_of};
-ghost use Rattle.c_calls.specs.Refusals.{IsRefusalOf, bad_length, bad_number, bad_rows, bad_table, batch_refusal, lookup_refusal, no_refusal, of_air, of_code, on_row, refusal_numbers, refusal_of, table_refusal, trace_refusal, refusal_of_size, witness_refusal};
+ghost use Rattle.c_calls.specs.Refusals.{IsRefusalOf, bad_length, bad_number, bad_rows, bad_table, batch_refusal, constraints_refusal, lookup_refusal, no_refusal, of_air, of_code, on_row, refusal_numbers, refusal_of, table_refusal, trace_refusal, refusal_of_size, witness_refusal};
 
 use crate::codes::{Code, Part, RecordFault};
 use crate::fault::Fault;
@@ -22,7 +22,7 @@ pub struct Refusal {
     pub air: usize,
     /// The row, the index in a part, or the node.
     pub row: usize,
-    /// The lookup, which is the record.
+    /// The lookup, which is the record, or the constraint.
     pub lookup: usize,
     /// What was expected.
     pub expected: usize,
@@ -141,6 +141,16 @@ fn table_refusal(air: usize, lookup: usize, fault: &TableFault) -> Refusal
         TableFault::TooDeep => bad_table(air, lookup, RecordFault::DeepExpression),
         TableFault::RowTooLarge => bad_table(air, lookup, RecordFault::LargeRow),
         TableFault::TooManyNodesWritten => bad_table(air, lookup, RecordFault::LongWrittenList),
+    }
+}
+
+/// The refusal of constraints, for what is wrong with their range, and where.
+fn constraints_refusal(fault: &TableFault) -> Refusal
+    ensures { result ≡ refusal_numbers (constraints_refusal fault.now) }
+{
+    Refusal {
+        code: Code::BadConstraints as u32,
+        ..table_refusal(0, 0, fault)
     }
 }
 
@@ -272,6 +282,9 @@ fn refusal_of(fault: &Fault) -> Refusal
         Fault::Lookup { air, error } => lookup_refusal(*air, error),
         Fault::Mismatch { .. } => Refusal::of(Code::Mismatch),
         Fault::Batch(error) => batch_refusal(error),
+        Fault::Constraints { fault } => constraints_refusal(fault),
+        Fault::UnfitConstraints => of_air(Code::DoesNotFit, 0),
+        Fault::Nonzero(fault) => { on_row(Code::NonzeroConstraint, 0, fault.row, fault.constraint) }
     }
 }
 

@@ -19,7 +19,7 @@ use Rattle.c_tables.proofs.Unique.{same_trees}
 
 module _ {p : ℕ} (positive : 0 < p) where
   -- one list of expressions stands in a range
-  written_once : (nodes : List Node) (span : Span) (a b : List (SymbolicExpression (Residue p))) → AreTableExpressions nodes span a → AreTableExpressions nodes span b → map tree_of a ≡ map tree_of b
+  pub written_once : (nodes : List Node) (span : Span) (a b : List (SymbolicExpression (Residue p))) → AreTableExpressions nodes span a → AreTableExpressions nodes span b → map tree_of a ≡ map tree_of b
   written_once nodes span a b p q = same_trees positive (map tree_of a) (map tree_of b) (p.trees.same ∙ sym q.trees.same)
 
   -- one list of tuples stands in some ranges

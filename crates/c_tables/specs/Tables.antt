@@ -15,7 +15,7 @@ use Rattle.c_tables.specs.declared.nodes.Node.{Node}
 use Rattle.c_tables.specs.declared.tables.Record.{Record}
 use Rattle.c_tables.specs.declared.tables.Span.{Span}
 use Rattle.c_tables.specs.declared.tables.TableFault.{TableFault}
-use Rattle.c_tables.specs.declared.tables.TableFault.TheVariants.{BadKind, TooManyNodesRead, NameNotUtf8, Node as BadNode, Range}
+use Rattle.c_tables.specs.declared.tables.TableFault.TheVariants.{BadKind, Memory, TooManyNodesRead, NameNotUtf8, Node as BadNode, Range}
 use Rattle.c_tables.specs.declared.tables.Tables.{Tables}
 
 -- nothing is so
@@ -74,6 +74,11 @@ pub record TablesEncode {p : ℕ} (tables : Tables) (lookups : List (Lookup (Res
   pub are : AreTableLookups tables lookups
   pub only : (others : List (Lookup (Residue p))) → AreTableLookups tables others → map outline_of others ≡ map outline_of lookups
 
+-- These expressions stand in a range of nodes, and no others: all that stand there are these, node by node.
+pub record RangeEncodes {p : ℕ} (nodes : List Node) (span : Span) (expressions : List (SymbolicExpression (Residue p))) : Type 0 where
+  pub are : AreTableExpressions nodes span expressions
+  pub only : (others : List (SymbolicExpression (Residue p))) → AreTableExpressions nodes span others → map tree_of others ≡ map tree_of expressions
+
 -- why a record has no bus
 abbrev pub IsTableBusFault : List ℕ → Record → TableFault → Type 0
 IsTableBusFault names r BadKind = (r.kind ≢ 0) × (r.kind ≢ 1)
@@ -90,6 +95,11 @@ module _ (p : ℕ) where
   IsTableSpanFault nodes span (BadNode n) =
       IsTableRange nodes span × (span.end - span.start ≤ 1048576) × ((i : ℕ) × (n ≡ span.start + i) × IsFirstBadNode p (table_items nodes span) i)
   IsTableSpanFault nodes span _ = ⊥
+
+  -- The refusal of a range of nodes in which no expressions stand, and why; or memory runs out.
+  abbrev pub IsTableRangeRefusal : List Node → Span → TableFault → Type 0
+  IsTableRangeRefusal nodes span e =
+      (e ≡ Memory) ⊎ (NothingInTable (AreTableExpressions {p = p} nodes span) × IsTableSpanFault nodes span e)
 
   -- Tuple i does not stand in its range, and why, and all those before it do.
   pub record IsFirstBadTableTuple (nodes : List Node) (spans : List Span) (i : ℕ) (e : TableFault) : Type 0 where

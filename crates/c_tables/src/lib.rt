@@ -19,6 +19,6 @@ mod writer;
 pub use nodes::{Node, NodeFault};
 pub use numbers::{NumberFault, element_numbers, elements, extension, extensions};
 pub use reader::read_expressions;
-pub use tables::{Record, Span, TableFault, Tables, read_lookups};
+pub use tables::{Record, Span, TableFault, Tables, read_lookups, read_range};
 pub use traces::{ReadTraces, TraceFault, TracePart, Traces, makes_rows, read_traces};
 pub use writer::{Written, write_lookups};

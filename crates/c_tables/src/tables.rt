@@ -2,7 +2,7 @@
 ghost use Rattle.std.specs.Prelude.{◌≡◌, ◌⊎◌, ℕ, MatchResult};
 ghost use Rattle.std.specs.Option.{option_map};
 ghost use Rattle.lookup_model.specs.Outline.{bus_of};
-ghost use Rattle.c_tables.specs.Tables.{AreTableFlags, AreTableLookups, AreTableTuples, IsTableBus, IsTableBusFault, IsFirstBadTableRecord, IsFirstBadTableTuple, IsTableFlagsFault, IsTableLookup, IsTableRecordFault, IsTableSpanFault, AreTableExpressions, NothingInTable, TablesEncode};
+ghost use Rattle.c_tables.specs.Tables.{AreTableFlags, AreTableLookups, AreTableTuples, IsTableBus, IsTableBusFault, IsFirstBadTableRecord, IsFirstBadTableTuple, IsTableFlagsFault, IsTableLookup, IsTableRecordFault, IsTableSpanFault, AreTableExpressions, IsTableRangeRefusal, NothingInTable, RangeEncodes, TablesEncode};
 ghost use Rattle.c_tables.specs.declared.tables.TableFault.TheVariants.{Memory};
 
 use crate::nodes::{Node, NodeFault};
@@ -267,4 +267,19 @@ pub fn read_lookups<const P: u32, K: MontyParameters<P>>(
         (λ e. (e.1 ≡ Memory) ⊎ IsFirstBadTableRecord P tables.now e.0 e.1) }
 {
     lookups_at(alloc, tables)
+}
+
+/// The expressions of a range of nodes. There is only one such list, node by node.
+///
+/// Refuses a range that is not within the nodes, then one of more than 1,048,576 nodes, and then the first bad
+/// node. Also fails when out of memory.
+pub fn read_range<const P: u32, K: MontyParameters<P>>(
+    alloc: Global,
+    nodes: &[Node],
+    span: Span,
+) -> Result<Vec<SymbolicExpression<MontyField31<P, K>>>, TableFault>
+    ensures { MatchResult result (λ v. RangeEncodes nodes.now span v.items)
+        (IsTableRangeRefusal P nodes.now span) }
+{
+    expressions_at(alloc, nodes, span)
 }

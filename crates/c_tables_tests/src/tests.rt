@@ -5,7 +5,7 @@ use air_expressions::{BaseEntry, BaseLeaf, Expression, SymbolicExpression, Symbo
 use c_tables::{
     Node, NodeFault, NumberFault, ReadTraces, Record, Span, TableFault, Tables, TraceFault,
     TracePart, Traces, element_numbers, elements, extension, extensions, makes_rows,
-    read_expressions, read_lookups, read_traces, write_lookups,
+    read_expressions, read_lookups, read_range, read_traces, write_lookups,
 };
 use field_monty::{BabyBear, BabyBear4, KoalaBear, KoalaBear4};
 use lookup_model::{Kind, Lookup};
@@ -109,6 +109,35 @@ fn refuses_the_first_bad_node(rt: HostRuntime) {
     );
     let is_second = matches!(&read, Err(NodeFault::Bad(1)));
     holds(&rt, "a sum of one", is_second);
+}
+
+/// Why a range of nodes is no list of expressions.
+fn range_fault(alloc: Global, nodes: &[Node], span: Span) -> Option<TableFault> {
+    let read: Result<Vec<SymbolicExpression<BabyBear>>, TableFault> = read_range(
+        alloc, nodes, span,
+    );
+    read.err()
+}
+
+#[test]
+fn reads_a_range(rt: HostRuntime) {
+    let nodes = [node(0, 1, 3), node(6, 7, 0), node(7, 0, 0)];
+    let read = read_range(rt.alloc(), &nodes, span(0, 2)).expect(&rt, "a range");
+    holds(&rt, "both expressions", is_cell_and_seven(&read));
+    let second = read_range(rt.alloc(), &nodes, span(1, 2)).expect(&rt, "the second one");
+    holds(&rt, "the second one", is_seven(&second));
+    let past = range_fault(rt.alloc(), &nodes, span(1, 4));
+    holds(
+        &rt,
+        "past the nodes",
+        matches!(past, Some(TableFault::Range)),
+    );
+    let bad = range_fault(rt.alloc(), &nodes, span(1, 3));
+    holds(
+        &rt,
+        "a sum of one",
+        matches!(bad, Some(TableFault::Node(2))),
+    );
 }
 
 #[test]

@@ -2,12 +2,12 @@
 //! interface does not link.
 
 unsafe extern "C" {
-    fn volgwain_abi_2() -> u32;
+    fn volgwain_abi_3() -> u32;
 }
 
 /// Asks the archive for its number. Whatever calls the library goes through here.
 pub(super) fn ask() {
     // SAFETY: it takes nothing, and only answers a number.
-    let number = unsafe { volgwain_abi_2() };
-    debug_assert_eq!(number, 2, "the call has another number than its name");
+    let number = unsafe { volgwain_abi_3() };
+    debug_assert_eq!(number, 3, "the call has another number than its name");
 }

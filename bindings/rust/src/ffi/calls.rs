@@ -3,14 +3,16 @@
 
 use super::abi;
 use super::declared::{
-    self, Counts, Fit, Grid, HeightCounts, PlanSizes, Refusal, Rows, TableSizes, Terminal, Wide,
+    self, Bound, Counts, Enforced, Fit, Grid, HeightCounts, PlanSizes, Refusal, Rows, TableSizes,
+    Terminal, Wide,
 };
 use crate::batch::{GridCount, HeightSoundness, SoundnessCount};
 use crate::element::Element;
 use crate::error::{Error, Part};
+use crate::expr::Expr;
 use crate::field::Field;
 use crate::memory::copies;
-use crate::tables::{Room, Tables};
+use crate::tables::{Room, Tables, with_constraints};
 use crate::traces::{Trace, Traces};
 use crate::witness::AirWitness;
 use std::ffi::c_char;
@@ -119,6 +121,63 @@ pub(crate) fn degrees<F: Field>(
                 size,
             )
         }
+    })
+}
+
+/// Says what constraints are shown to enforce of lookups, on rows of traces of this height: of each lookup,
+/// and the bounds of all multiplicities, lookup by lookup.
+pub(crate) fn enforced<F: Field>(
+    tables: &Tables<F>,
+    constraints: &[Expr<F>],
+    height: usize,
+) -> Result<(Vec<Enforced>, Vec<Bound>), Error> {
+    let (nodes, span) = with_constraints(&tables.nodes, constraints)?;
+    let raw =
+        declared::Tables { nodes: nodes.as_ptr(), nodes_length: nodes.len(), ..raw_tables(tables) };
+    let mut shown = copies(Enforced::default(), tables.records.len())?;
+    let multiplicities = tables.records.iter().map(|record| record.tuples.len()).sum();
+    let mut bounds = copies(Bound::default(), multiplicities)?;
+    answer(|refusal, text, size| {
+        // SAFETY: `tables`, to which `raw` points, `nodes` and the range are borrowed for the whole call,
+        // and `shown` and `bounds` as mutable; each length is that of its slice, and there is a byte of
+        // `queries` for each range of `tuples`.
+        unsafe {
+            (F::CALLS.enforced)(
+                &raw,
+                &span,
+                height,
+                tables.queries.as_ptr(),
+                tables.queries.len(),
+                shown.as_mut_ptr(),
+                shown.len(),
+                bounds.as_mut_ptr(),
+                bounds.len(),
+                refusal,
+                text,
+                size,
+            )
+        }
+    })?;
+    Ok((shown, bounds))
+}
+
+/// Whether constraints are zero on each row of traces.
+pub(crate) fn check_constraints<F: Field>(
+    constraints: &[Expr<F>],
+    traces: &Traces<'_>,
+) -> Result<(), Error> {
+    let (nodes, span) = with_constraints(&[], constraints)?;
+    let tables = Tables::<F>::default();
+    let raw = declared::Tables {
+        nodes: nodes.as_ptr(),
+        nodes_length: nodes.len(),
+        ..raw_tables(&tables)
+    };
+    let traces = raw_traces(traces);
+    answer(|refusal, text, size| {
+        // SAFETY: `nodes`, the range, the empty tables and `traces` are borrowed for the whole call; each
+        // length is that of its slice. It writes the refusal and its text alone.
+        unsafe { (F::CALLS.check_constraints)(&raw, &span, &traces, refusal, text, size) }
     })
 }
 
@@ -629,6 +688,7 @@ fn written<F: Field>(
                 tables.tuples.truncate(sizes.tuples);
                 tables.names.truncate(sizes.names);
                 tables.records.truncate(sizes.records);
+                tables.guess_queries()?;
                 return Ok(tables);
             }
             Err(error) => room = room.grown(error)?,

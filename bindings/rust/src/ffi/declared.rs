@@ -149,6 +149,25 @@ pub(super) struct TableSizes {
     pub(super) records: usize,
 }
 
+/// What constraints are shown to enforce of a lookup.
+#[derive(Clone, Copy, Debug, Default)]
+#[repr(C)]
+pub(crate) struct Enforced {
+    pub(crate) flags: u32,
+    pub(crate) weight: u32,
+    pub(crate) missing: u32,
+    pub(crate) rows: u32,
+    pub(crate) flag: usize,
+}
+
+/// A bound of a multiplicity.
+#[derive(Clone, Copy, Debug, Default)]
+#[repr(C)]
+pub(crate) struct Bound {
+    pub(crate) present: u32,
+    pub(crate) bound: u64,
+}
+
 /// An AIR of a batch.
 #[derive(Clone, Copy)]
 #[repr(C)]

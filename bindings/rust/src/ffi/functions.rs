@@ -1,8 +1,8 @@
 //! The functions of the header, in its order. Each field has all of them, under a prefix of its own.
 
 use super::declared::{
-    Air, AirWitness, Counts, Fit, Grid, HeightCounts, Node, PlanSizes, Record, Refusal, Rows, Span,
-    TableSizes, Tables, Terminal, Traces,
+    Air, AirWitness, Bound, Counts, Enforced, Fit, Grid, HeightCounts, Node, PlanSizes, Record,
+    Refusal, Rows, Span, TableSizes, Tables, Terminal, Traces,
 };
 use crate::element::Element;
 use crate::field::{BabyBear, KoalaBear};
@@ -123,6 +123,30 @@ functions! {
             records: *mut Record,
             records_length: usize,
             sizes: *mut TableSizes,
+            refusal: *mut Refusal,
+            text: *mut c_char,
+            text_size: usize,
+        ) -> u32;
+
+        fn enforced(
+            tables: *const Tables,
+            constraints: *const Span,
+            height: usize,
+            queries: *const u8,
+            queries_length: usize,
+            shown: *mut Enforced,
+            shown_length: usize,
+            bounds: *mut Bound,
+            bounds_length: usize,
+            refusal: *mut Refusal,
+            text: *mut c_char,
+            text_size: usize,
+        ) -> u32;
+
+        fn check_constraints(
+            tables: *const Tables,
+            constraints: *const Span,
+            traces: *const Traces,
             refusal: *mut Refusal,
             text: *mut c_char,
             text_size: usize,

@@ -18,11 +18,13 @@ mod declared;
 mod functions;
 
 pub(crate) use calls::{
-    Planned, PlannedIds, bus_table, debug_check, degrees, fit_fault, generate, generate_by_ids,
-    generate_rows, grid_count, mismatch, pack, plan, prove, read_json, shift, soundness_count,
-    soundness_of_heights, verify, verify_air, verify_rows,
+    Planned, PlannedIds, bus_table, check_constraints, debug_check, degrees, enforced, fit_fault,
+    generate, generate_by_ids, generate_rows, grid_count, mismatch, pack, plan, prove, read_json,
+    shift, soundness_count, soundness_of_heights, verify, verify_air, verify_rows,
 };
-pub(crate) use declared::{Fit, Node, PlanSizes, Record, Refusal, Rows, Span, Terminal, kind};
+pub(crate) use declared::{
+    Bound, Enforced, Fit, Node, PlanSizes, Record, Refusal, Rows, Span, Terminal, kind,
+};
 pub use functions::Linked;
 
 #[cfg(all(test, target_pointer_width = "64"))]
@@ -57,5 +59,7 @@ mod tests {
         assert_eq!(layout::<Grid>(), (40, 8));
         assert_eq!(layout::<Rows>(), (24, 8));
         assert_eq!(layout::<Fit>(), (56, 8));
+        assert_eq!(layout::<Enforced>(), (24, 8));
+        assert_eq!(layout::<Bound>(), (16, 8));
     }
 }
