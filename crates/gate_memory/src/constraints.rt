@@ -27,15 +27,6 @@ fn constraints_of(alloc: Global, out: &mut Out) -> Option<Vec<SymbolicExpression
     input(out, alone(alloc, constraint))
 }
 
-/// The call that shows what the constraints enforce.
-fn make_enforcements(alloc: Global, out: &mut Out) -> Option<()> {
-    let set = set(alloc, out, LOOKUPS)?;
-    let constraints = constraints_of(alloc, out)?;
-    let shown = enforcements(alloc, constraints.as_slice(), set.as_slice(), 2);
-    show(out, "enforcements", shown);
-    Some(())
-}
-
 /// The call that makes a plan of an AIR whose constraints are these.
 fn make_plan(alloc: Global, out: &mut Out, constraints: Vec<SymbolicExpression<F7>>) -> Option<()> {
     let set = set(alloc, out, LOOKUPS)?;
@@ -65,24 +56,24 @@ fn check_weights(alloc: Global, out: &mut Out) -> Option<()> {
     Some(())
 }
 
-/// The call that reads constraints off a fixed trace of two columns that are never both one.
-fn read_fixed(alloc: Global, out: &mut Out) -> Option<()> {
-    let fixed = trace::<F7>(alloc, out, &[1, 0, 0, 1], 2)?;
-    let found = fixed_constraints(alloc, &fixed, &[0, 1]);
-    show(out, "fixed_constraints", found);
-    Some(())
-}
-
 /// The calls that take memory: extraction, what is enforced, plans that are accepted and refused, and what
 /// a fixed trace says.
 pub fn constraints(alloc: Global, out: &mut Out) {
     let both = ConstrainedLookups::<F7>::from_air::<F7, EachRecord>(alloc, &EachRecord);
     show(out, "ConstrainedLookups::from_air", both);
-    let _ = make_enforcements(alloc, out);
+    if let Some(set) = set(alloc, out, LOOKUPS) {
+        if let Some(list) = constraints_of(alloc, out) {
+            let shown = enforcements(alloc, list.as_slice(), set.as_slice(), 2);
+            show(out, "enforcements", shown);
+        }
+    }
     if let Some(list) = constraints_of(alloc, out) {
         let _ = make_plan(alloc, out, list);
     }
     let _ = make_plan(alloc, out, Vec::new(alloc));
     let _ = check_weights(alloc, out);
-    let _ = read_fixed(alloc, out);
+    if let Some(fixed) = trace::<F7>(alloc, out, &[1, 0, 0, 1], 2) {
+        let found = fixed_constraints(alloc, &fixed, &[0, 1]);
+        show(out, "fixed_constraints", found);
+    }
 }

@@ -81,34 +81,26 @@ fn bus(alloc: Global) -> Result<Kind, AllocError> {
     Ok(Kind::Global(String::from_str(alloc, "keys")?))
 }
 
-/// Calls on an expression.
+/// Calls on an expression, also as the constraint of a lookup of 1.
 fn on_tree(alloc: Global, out: &mut Out, tree: SymbolicExpression<F7>) {
     show(out, "serialize", written(alloc, &tree));
     trees::on_tree(alloc, out, &tree);
     if let Some(trees) = input(out, alone(alloc, tree)) {
         over_recorder::<F7, F7>(alloc, Call::Resolve, out, trees.as_slice(), &[]);
-        on_constraints(alloc, out, trees.as_slice());
-    }
-}
-
-/// Calls on constraints: on a trace, and for a lookup of 1.
-fn on_constraints(alloc: Global, out: &mut Out, constraints: &[SymbolicExpression<F7>]) {
-    let one = SymbolicExpression::constant(F7::new(1));
-    if let Some(lookups) = input(out, one_lookup_of(alloc, one)) {
-        let shown = enforcements(alloc, constraints, lookups.as_slice(), 2);
-        show(out, "enforcements", shown);
-    }
-    if let Some(main) = trace(alloc, out, &BALANCED, 3) {
-        let traces = Traces {
-            main: &main,
-            preprocessed: None,
-            public_values: &[],
-        };
-        show(
-            out,
-            "check_constraints",
-            check_constraints(constraints, &traces),
-        );
+        let one = SymbolicExpression::constant(F7::new(1));
+        if let Some(lookups) = input(out, one_lookup_of(alloc, one)) {
+            let shown = enforcements(alloc, trees.as_slice(), lookups.as_slice(), 2);
+            show(out, "enforcements", shown);
+        }
+        if let Some(main) = trace(alloc, out, &BALANCED, 3) {
+            let traces = Traces {
+                main: &main,
+                preprocessed: None,
+                public_values: &[],
+            };
+            let checked = check_constraints(trees.as_slice(), &traces);
+            show(out, "check_constraints", checked);
+        }
     }
 }
 
