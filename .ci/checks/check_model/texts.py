@@ -4,7 +4,7 @@ import subprocess
 from refused_memory.program import REFUSED
 from refused_memory.runs import swept
 
-from . import batches, option_texts, showing, witness_texts
+from . import batches, enforced_texts, option_texts, showing, witness_texts
 from .comparing import TOP, bytes_of, cases, compared, modelled, run_compared, wanted_of
 from .fields import FIELDS
 from .running import FILE, Answer, answer_of, differences, limit, room, unlawful, written
@@ -332,6 +332,7 @@ def tasks(program, shim):
         yield "random batches", random_swept, program, range(part, SEEDS, PARTS)
     for part in range(CHANGED_PARTS):
         yield "changed texts", changed_swept, program, FILE, part
+    yield from enforced_texts.tasks(program)
     yield from witness_texts.tasks(program)
     yield from option_texts.tasks(program)
     for name in (FILE, "gaps.csv"):

@@ -56,6 +56,18 @@ returns-in_err-plan g c =
       | inr refusal ↦ inr (inr (sym c.check_buses.ensures ∙ c.in_ok-check_buses.was, inr (map said_of named, c.in_ok-named.ensures, inr (map lookups_of sets, said, inl (subst (λ airs. IsPlanningRefusal g.F.PrimeCharacteristicRing.CHARACTERISTIC airs c.in_err-plan.field-0.0) sizes refusal)))))
     ])
 
+pub asserted_airs-requires-clause-said : goal.asserted_airs-requires-clause-said
+asserted_airs-requires-clause-said g c = ?
+
+pub asserted_airs-requires-clause-named : goal.asserted_airs-requires-clause-named
+asserted_airs-requires-clause-named g c = ?
+
+pub asserted_airs-requires-clause-sets : goal.asserted_airs-requires-clause-sets
+asserted_airs-requires-clause-sets g c = ?
+
+pub returns-in_err-report : goal.returns-in_err-report
+returns-in_err-report g c = ?
+
 pub returns : goal.returns
 returns g c =
     let shapes = map shape_of c.args.shapes.now in
@@ -68,11 +80,6 @@ returns g c =
     let lookups = AllZip-images (AreLookupsOf element c.args.text.now) said_of lookups_of c.deref.result.now sets c.in_ok-sets.ensures in
     let before = c.in_ok-airs.ensures ∙ ap (λ ss. sized_over (map lookups_of ss) shapes) c.deref-2.ensures.value in
     let sizes = ap (map sized_lookups_of) c.deref-4.ensures.value ∙ before in
-    let planned = subst (λ airs. IsPlanOf g.F.PrimeCharacteristicRing.CHARACTERISTIC airs plan) (ap (map sized_lookups_of) c.deref-3.ensures.value ∙ before) c.in_ok-plan.ensures in
     let said = subst (λ ns. AllZip (AreLookupsOf element c.args.text.now) (map said_of ns) (map lookups_of sets)) c.deref.ensures.value lookups in
-    MatchResult-weaker c.report_plan.result c.report_plan.ensures
-    (λ report found. (distinct, map said_of named, map lookups_of sets, plan, c.in_ok-named.ensures, said, planned_over _ _ c.args.max_degree (map sized_lookups_of c.deref-4.result.now) over plan report sizes found))
-    (λ e cause. elim cause [
-      | inl memory ↦ inl memory
-      | inr refusal ↦ inr (inr (distinct, inr (map said_of named, c.in_ok-named.ensures, inr (map lookups_of sets, said, inr (plan, planned, subst (λ airs. IsReportRefusal g.F.PrimeCharacteristicRing.ring g.F.PartialEq.eq c.args.max_degree airs plan e) sizes refusal)))))
-    ])
+    let report = c.in_ok-report.report in
+    ?
