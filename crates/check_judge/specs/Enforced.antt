@@ -1,5 +1,5 @@
 -- What the constraints of AIRs are shown to enforce of their lookups.
-use Rattle.std.specs.Prelude.{◌≡◌, ◌↔◌, ◌×◌, ℕ, All, Bool, IsTrue, List, map}
+use Rattle.std.specs.Prelude.{◌≡◌, ◌↔◌, ℕ, All, Bool, IsTrue, List, map}
 use Rattle.std.specs.List.{AllZip, zip}
 use Rattle.field.specs.Ring.{Ring}
 use Rattle.air.specs.Traces.{height_of}
@@ -56,5 +56,6 @@ module _ {F : Type 0} (R : Ring F) (eq : F → F → Bool) where
   AreEnforcedAirs xs found = AllZip IsEnforcedAir xs found
 
 -- all flags and all weights of an AIR are shown to be enforced
-abbrev pub IsAllEnforced : EnforcedAir → Type 0
-IsAllEnforced found = All (λ e. IsTrue e.flags) found.lookups.items × All IsTrue found.weights.items
+pub record IsAllEnforced (found : EnforcedAir) : Type 0 where
+  pub flags : All (λ e. IsTrue e.flags) found.lookups.items
+  pub weights : All IsTrue found.weights.items

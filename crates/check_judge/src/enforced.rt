@@ -39,7 +39,7 @@ pub struct EnforcedAirs {
 impl EnforcedAirs {
     /// These AIRs, and whether all of their flags and weights are shown to be enforced.
     pub(crate) fn of_airs(airs: Vec<EnforcedAir>) -> EnforcedAirs
-        ensures airs { result.airs ≡ airs.entry }
+        ensures airs { result.airs ≡ airs }
         ensures all { IsTrue result.all ↔ All IsAllEnforced result.airs.items }
     {
         let all = are_all_enforced(airs.as_slice());
@@ -171,7 +171,12 @@ fn queries_of(alloc: Global, counts: &[SaidCount]) -> Result<Vec<bool>, AllocErr
 fn are_all_enforced(airs: &[EnforcedAir]) -> bool
     ensures { IsTrue result ↔ All IsAllEnforced airs.now }
 {
-    airs.iter().all(|air| is_all_enforced(air))
+    for index in 0..airs.len() {
+        if !is_all_enforced(&airs[index]) {
+            return false;
+        }
+    }
+    true
 }
 
 /// Whether all flags and all weights of an AIR are.

@@ -23,26 +23,46 @@ pub fn push_formula(
 ) -> Result<(), AllocError> {
     match tree {
         Tree::Sum(left, right) => {
-            push_pair(page, text, (left, right), " + ", around, Around::Nothing)
+            page.word(parenthesis("(", around > Around::Nothing))?;
+            push_formula(page, text, left, Around::Nothing)?;
+            page.word(" + ")?;
+            push_formula(page, text, right, Around::Product)?;
+            page.word(parenthesis(")", around > Around::Nothing))
         }
         Tree::Difference(left, right) => {
-            push_pair(page, text, (left, right), " - ", around, Around::Nothing)
+            page.word(parenthesis("(", around > Around::Nothing))?;
+            push_formula(page, text, left, Around::Nothing)?;
+            page.word(" - ")?;
+            push_formula(page, text, right, Around::Product)?;
+            page.word(parenthesis(")", around > Around::Nothing))
         }
         Tree::Product(left, right) => {
-            push_pair(page, text, (left, right), " * ", around, Around::Product)
+            page.word(parenthesis("(", around > Around::Product))?;
+            push_formula(page, text, left, Around::Product)?;
+            page.word(" * ")?;
+            push_formula(page, text, right, Around::Sign)?;
+            page.word(parenthesis(")", around > Around::Product))
         }
         Tree::Negative(inner) => {
-            page.word(if around > Around::Sign { "(-" } else { "-" })?;
+            page.word(parenthesis("(", around > Around::Sign))?;
+            page.word("-")?;
             push_formula(page, text, inner, Around::Sign)?;
-            page.word(if around > Around::Sign { ")" } else { "" })
+            page.word(parenthesis(")", around > Around::Sign))
         }
         Tree::Power(base, exponent) => {
-            page.word(if around > Around::Sign { "(" } else { "" })?;
+            page.word(parenthesis("(", around > Around::Sign))?;
             push_formula(page, text, base, Around::Power)?;
             page.word("^")?;
             page.number(u128::from(*exponent))?;
-            page.word(if around > Around::Sign { ")" } else { "" })
+            page.word(parenthesis(")", around > Around::Sign))
         }
+        leaf => push_leaf(page, text, leaf),
+    }
+}
+
+/// Appends a name, a cell of the next row, or a number.
+fn push_leaf(page: &mut Page, text: &[u8], leaf: &Tree) -> Result<(), AllocError> {
+    match leaf {
         Tree::Name(name) => push_name(page, text, *name),
         Tree::Next(name) => {
             page.word("next(")?;
@@ -50,27 +70,12 @@ pub fn push_formula(
             page.word(")")
         }
         Tree::Number(number, _) => page.number(u128::from(*number)),
+        _ => Ok(()),
     }
 }
 
-/// Appends two expressions with an operator between them: `own` is how tightly that binds.
-fn push_pair(
-    page: &mut Page,
-    text: &[u8],
-    sides: (&Tree, &Tree),
-    sign: &str,
-    around: Around,
-    own: Around,
-) -> Result<(), AllocError> {
-    let right = match own {
-        Around::Nothing => Around::Product,
-        _ => Around::Sign,
-    };
-    page.word(if around > own { "(" } else { "" })?;
-    push_formula(page, text, sides.0, own)?;
-    page.word(sign)?;
-    push_formula(page, text, sides.1, right)?;
-    page.word(if around > own { ")" } else { "" })
+fn parenthesis(sign: &'static str, is_closed: bool) -> &'static str {
+    if is_closed { sign } else { "" }
 }
 
 /// Appends a name, in backquotes if it stands in backquotes.

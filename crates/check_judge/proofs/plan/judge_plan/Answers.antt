@@ -125,10 +125,10 @@ returns g c =
     let sizes = ap (map sized_lookups_of) c.deref-4.ensures.value ∙ before in
     let said = subst (λ ns. AllZip (AreLookupsOf element text) (map said_of ns) (map lookups_of sets)) c.deref.ensures.value lookups in
     let are = asserted element text (airs_of sections) c.args.shapes.now named c.in_ok-said.said.items sets found c.in_ok-said.ensures said
-        (c.in_ok-asserted.ensures.lookups ∙ ap (map lookups_of) c.deref-7.ensures.value)
-        (c.in_ok-asserted.ensures.constraints ∙ ap (map (λ n. constraints_in element (map constraint_of n.constraints.items))) c.deref-6.ensures.value)
-        (c.in_ok-asserted.ensures.counts ∙ ap (map (λ a. counts_in (air_of a.now).items)) c.deref-5.ensures.value)
-        c.in_ok-asserted.ensures.heights in
+    (c.in_ok-asserted.ensures.lookups ∙ ap (map lookups_of) c.deref-7.ensures.value)
+    (c.in_ok-asserted.ensures.constraints ∙ ap (map (λ n. constraints_in element (map constraint_of n.constraints.items))) c.deref-6.ensures.value)
+    (c.in_ok-asserted.ensures.counts ∙ ap (map (λ a. counts_in (air_of a.now).items)) c.deref-5.ensures.value)
+    c.in_ok-asserted.ensures.heights in
     let enforced = images_zip (IsEnforcedAir R eq) asserted_air_of c.deref-8.result.now c.in_ok-enforced_before.field-0.items c.in_ok-enforced_before.ensures in
     let there = subst (λ airs. AreEnforcedAirs R eq (map asserted_air_of airs) c.in_ok-enforced_before.field-0.items) c.deref-8.ensures.value enforced in (
       sym c.check_buses.ensures ∙ c.in_ok-check_buses.was,
