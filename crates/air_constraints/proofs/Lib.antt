@@ -1,5 +1,7 @@
 pub mod BitLaws
 mod BoundLaws
+mod ExclusiveLaws
+mod FixedLaws
 mod ProductLaws
 mod RecogniseLaws
 mod SumLaws

@@ -7,6 +7,7 @@ ghost use Rattle.air_constraints.specs.Polynomials.{sum_at};
 
 use crate::cells::{has_cell, same_products};
 use crate::error::PolynomialError;
+use crate::exclusive_sums::is_exclusive_sum;
 use crate::facts::Facts;
 use crate::polynomial::add_multiple;
 use crate::term::Term;
@@ -98,7 +99,8 @@ fn square_less_itself<F: Field>(
     Ok(limited_sum(alloc, square, -F::ONE, terms, facts, usize::MAX)?)
 }
 
-/// Whether a polynomial is zero or one: whether its square less itself is zero. What is too large is not known to be.
+/// Whether a polynomial is zero or one: whether its square less itself is zero, or where that is too large it is a
+/// sum of exclusive bits. What else is too large is not known to be.
 ///
 /// Fails only when out of memory.
 fn is_plain_bit<F: Field>(
@@ -112,7 +114,7 @@ fn is_plain_bit<F: Field>(
 {
     match square_less_itself(alloc, terms, facts, limit) {
         Ok(difference) => Ok(is_zero(alloc, difference.as_slice(), facts)?),
-        Err(PolynomialError::Large) => Ok(false),
+        Err(PolynomialError::Large) => Ok(is_exclusive_sum(terms, facts)),
         Err(PolynomialError::Memory) => Err(AllocError),
     }
 }

@@ -161,6 +161,20 @@ impl<F: Field> BatchPlan<F> {
         })
     }
 
+    /// The lookups of each AIR.
+    pub fn airs(&self) -> &[Lookups<F>]
+        ensures { result.now ≡ self.now.airs.items }
+    {
+        &self.airs[..]
+    }
+
+    /// The height of the traces of each AIR.
+    pub fn heights(&self) -> &[usize]
+        ensures { result.now ≡ self.now.heights.items }
+    {
+        &self.heights[..]
+    }
+
     /// The id of each lookup, AIR by AIR.
     pub fn ids(&self) -> &[Vec<usize>]
         ensures { result.now ≡ self.now.ids.items }

@@ -28,16 +28,10 @@ module _ {F : Type 0} (constraints : List (Vec (SymbolicExpression F) Global)) (
       (mapped_at (λ l. l.items) constraints i list (omega (arith, lt, many)) list_is)
       (zip_at airs heights i air height (sym high) lt air_is (get_or_default heights i 0 height within))
 
--- what is there is shown, if it is said to be
-pub shown_if_there : {A : Type 0} (P : A → Type 0) (o : Option A) (said found : Bool) → (IsTrue said → IfSome o P) → found ≡ (is_some o && not said) → found ≡ false → IfSome o P
-shown_if_there P None said found shown e found_is = tt
-shown_if_there P (Some a) true found shown e found_is = shown refl
-shown_if_there P (Some a) false found shown e found_is = absurd (cc (e, found_is))
-
--- it is there, if it is not
-pub there_unless_shown : {A : Type 0} (o : Option A) (said found : Bool) → found ≡ (is_some o && not said) → found ≡ true → is_some o ≡ true
-there_unless_shown None said found e found_is = absurd (cc (e, found_is))
-there_unless_shown (Some a) said found e found_is = refl
+-- there are flags, if something is missing of them
+pub there_if_missing : {A B : Type 0} (o : Option A) (m : Option B) (b : B) → (IsNone o → IsNone m) → m ≡ Some b → is_some o ≡ true
+there_if_missing None m b plain is = absurd (cc (plain refl, is))
+there_if_missing (Some a) m b plain is = refl
 
 -- nothing is asked of a lookup without flags
 pub without_flags : {X : Type 0} (P : X → Type 0) (o : Option X) → IsNone o → IfSome o P

@@ -3,3 +3,4 @@ mod FlagLaws
 mod PlanLaws
 mod QueryLaws
 mod RefusalLaws
+mod WeightLaws

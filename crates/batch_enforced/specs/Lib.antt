@@ -3,3 +3,4 @@ pub mod EnforcedPlans
 pub mod HeightBounds
 pub mod PlanRefusals
 pub mod Queries
+pub mod Weights

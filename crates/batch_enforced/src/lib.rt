@@ -7,9 +7,11 @@ mod flags;
 mod plan;
 mod queries;
 mod unshown;
+mod weights;
 
 pub use error::EnforcementError;
 pub use flags::flags_are_enforced;
 pub use plan::EnforcedPlan;
 pub use queries::queries_are_provided;
 pub use unshown::UnshownFlags;
+pub use weights::{UnshownWeight, WeightError};

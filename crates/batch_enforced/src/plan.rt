@@ -7,6 +7,7 @@ ghost use Rattle.batch_enforced.specs.EnforcedPlans.{HaveEnforcedFlags, IsFirstU
 
 use crate::error::EnforcementError;
 use crate::unshown::{UnshownFlags, unshown_flags};
+use crate::weights::{WeightError, check_all_weights};
 use air_expressions::SymbolicExpression;
 use batch::{BatchError, BatchPlan, HeightSoundness};
 use field::{ExtensionField, Field, Over};
@@ -29,6 +30,7 @@ impl<F: Field> EnforcedPlan<F> {
     ghost use Rattle.batch.specs.Heights.{CountsHeights, most_planned};
     ghost use Rattle.batch_enforced.specs.EnforcedPlans.{IsEnforcementRefusal};
     ghost use Rattle.batch_enforced.specs.HeightBounds.{BoundsConstrainedTraces};
+    ghost use Rattle.batch_enforced.specs.Weights.{IsWeightRefusal, ProvidesOverConstrained, queries_of};
 
     /// The plan of these AIRs, whose traces have these heights, with the constraints of each AIR. Any constraints
     /// of an AIR may be left out: its flags are then shown from those that are there.
@@ -84,6 +86,44 @@ impl<F: Field> EnforcedPlan<F> {
         let unshown = look_at_flags(alloc, airs.as_slice(), heights.as_slice(), lists)?;
         let plan = BatchPlan::with_ids(alloc, airs, heights, ids, num_ids)?;
         EnforcedPlan::of_shown(plan, constraints, unshown)
+    }
+
+    /// Checks that the constraints are shown to enforce the weights of all lookups at the heights of the plan, where
+    /// `queries` says of each tuple whether it is a query: AIR by AIR and lookup by lookup, true for a query and false
+    /// for a provided entry.
+    ///
+    /// If so, whatever traces fit the plan on which the constraints hold: if their messages balance, each key whose
+    /// queries do not sum to zero, in whole numbers, is provided.
+    ///
+    /// Refuses the first of these that fails:
+    ///
+    /// - `LengthMismatch`: there is a list for each AIR;
+    /// - AIR by AIR, `LookupMismatch`: there is a list for each lookup of the AIR; `Weight`: the queries of each of
+    ///   its lookups are shown to stay within its weight, see [`keeps_weight`](lookup_enforced::keeps_weight). The
+    ///   first lookup is named of which this is not shown.
+    ///
+    /// Also fails when out of memory.
+    pub fn check_weights(
+        &self,
+        alloc: Global,
+        queries: &[Vec<Vec<bool>>],
+    ) -> Result<(), WeightError>
+        ensures { MatchResult result
+            (λ _. (length queries.now ≡ length (plan_of self.now.plan).airs)
+            × ProvidesOverConstrained F.ring F.eq (plan_of self.now.plan)
+            (constraints_of self.now.constraints.items) (queries_of queries.now))
+            (IsWeightRefusal F.ring F.eq (queries_of queries.now) (constraints_of self.now.constraints.items)
+            (plan_of self.now.plan).airs (plan_of self.now.plan).heights) }
+    {
+        let airs = self.plan.airs();
+        if queries.len() != airs.len() {
+            return Err(WeightError::LengthMismatch {
+                expected: airs.len(),
+                actual: queries.len(),
+            });
+        }
+        let constraints = self.constraints.as_slice();
+        check_all_weights(alloc, airs, self.plan.heights(), constraints, queries)
     }
 
     /// The plan with these constraints, unless there are flags that are not shown to be enforced.

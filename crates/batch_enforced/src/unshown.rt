@@ -1,16 +1,16 @@
 //! The first lookup whose flags are not shown to be enforced.
-ghost use Rattle.std.specs.Prelude.{◌≡◌, ◌&&◌, All, IfOk, IsFalse, IsNone, MatchOption, length, not};
+ghost use Rattle.std.specs.Prelude.{◌≡◌, All, IfOk, IsFalse, IsNone, MatchOption, length};
 ghost use Rattle.air_expressions.specs.Faults.{HasFirstFault};
 ghost use Rattle.batch_enforced.specs.EnforcedPlans.{HaveEnforcedFlags, IsFirstUnshown, IsUnshown, constraints_of};
 ghost use Rattle.lookup_enforced.specs.Enforced.{EnforcesFlags};
 ghost use Rattle.lookup_model.specs.Outline.{bus_of};
-ghost use Rattle.std.specs.Option.{is_some, option_map};
+ghost use Rattle.std.specs.Option.{option_map};
 ghost use Rattle.std.specs.String.{string_bytes};
 
 use air_expressions::SymbolicExpression;
 use field::Field;
 use lookup::Lookups;
-use lookup_enforced::{Enforcement, Missing, enforcements};
+use lookup_enforced::{Missing, missing_flags};
 use lookup_model::{Kind, Lookup};
 use std::alloc::{AllocError, Global};
 use std::fmt;
@@ -25,29 +25,15 @@ pub struct UnshownFlags {
     /// The name of its bus; none if it is local.
     pub bus: Option<String>,
     /// The first thing that was not shown.
-    pub missing: Option<Missing>,
+    pub missing: Missing,
 }
 
 impl fmt::Display for UnshownFlags {
     fn fmt<W: fmt::Write>(&self, f: &mut fmt::Formatter<W>) -> fmt::Result {
-        let (air, lookup) = (self.air, self.lookup);
-        match (&self.bus, &self.missing) {
-            (Some(bus), Some(missing)) => {
-                write!(f, "air {air}, lookup {lookup} on bus {bus}: {missing}")
-            }
-            (None, Some(missing)) => write!(f, "air {air}, local lookup {lookup}: {missing}"),
-            (Some(bus), None) => {
-                write!(
-                    f,
-                    "air {air}, lookup {lookup} on bus {bus}: flags are not shown to be lawful"
-                )
-            }
-            (None, None) => {
-                write!(
-                    f,
-                    "air {air}, local lookup {lookup}: flags are not shown to be lawful"
-                )
-            }
+        let (air, lookup, missing) = (self.air, self.lookup, &self.missing);
+        match &self.bus {
+            Some(bus) => write!(f, "air {air}, lookup {lookup} on bus {bus}: {missing}"),
+            None => write!(f, "air {air}, local lookup {lookup}: {missing}"),
         }
     }
 }
@@ -93,15 +79,15 @@ fn unshown_of_air<F: Field>(
     if !have_flags(lookups) {
         return Ok(None);
     }
-    let shown = enforcements(alloc, constraints, lookups, height)?;
+    let missing = missing_flags(alloc, constraints, lookups, height)?;
     for index in 0..lookups.len() {
-        let (lookup, enforcement) = (&lookups[index], &shown[index]);
-        if is_unshown(lookup, enforcement) {
+        if let Some(missing) = missing[index] {
+            let bus = bus_name(alloc, &lookups[index].kind)?;
             return Ok(Some(UnshownFlags {
                 air,
                 lookup: index,
-                bus: bus_name(alloc, &lookup.kind)?,
-                missing: enforcement.missing,
+                bus,
+                missing,
             }));
         }
     }
@@ -120,15 +106,8 @@ fn have_flags<F>(lookups: &[Lookup<F>]) -> bool
     false
 }
 
-/// Whether a lookup has flags that are not shown to be enforced.
-fn is_unshown<F>(lookup: &Lookup<F>, enforcement: &Enforcement) -> bool
-    ensures { result ≡ (is_some lookup.now.flags && not enforcement.now.flags) }
-{
-    lookup.flags.is_some() && !enforcement.flags
-}
-
 /// A copy of the name of the bus, if there is one.
-fn bus_name(alloc: Global, kind: &Kind) -> Result<Option<String>, AllocError>
+pub(crate) fn bus_name(alloc: Global, kind: &Kind) -> Result<Option<String>, AllocError>
     ensures { IfOk result (λ bus. option_map string_bytes bus ≡ bus_of kind.now) }
 {
     match kind {

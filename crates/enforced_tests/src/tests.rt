@@ -1,9 +1,12 @@
 //! What the tests share: lookups of a memory, and the constraints of its cells.
 mod constraints;
 mod extracted;
+mod fixed;
 mod machines;
 mod many;
 mod plans;
+mod provided;
+mod random;
 mod recognised;
 mod shown;
 mod weights;

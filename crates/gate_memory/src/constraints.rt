@@ -1,10 +1,11 @@
 //! Calls on the constraints of AIRs.
 use crate::sets::set;
 use air::{BaseEntry, Expression, SymbolicExpression, SymbolicVariable};
+use air_constraints::fixed_constraints;
 use batch_enforced::EnforcedPlan;
 use field::F7;
 use gate_memory_builders::airs::EachRecord;
-use gate_memory_builders::inputs::{LOOKUPS, alone};
+use gate_memory_builders::inputs::{LOCAL, LOOKUPS, alone, trace};
 use gate_memory_builders::show::{Out, input, show};
 use lookup_enforced::{ConstrainedLookups, enforcements};
 use std::alloc::{AllocError, Global};
@@ -47,7 +48,33 @@ fn make_plan(alloc: Global, out: &mut Out, constraints: Vec<SymbolicExpression<F
     Some(())
 }
 
-/// The calls that take memory: extraction, what is enforced, and plans that are accepted and refused.
+/// The call that checks the weights of a plan of one AIR, whose one lookup has a query and a provided entry.
+fn check_weights(alloc: Global, out: &mut Out) -> Option<()> {
+    let set = set(alloc, out, LOCAL)?;
+    let airs = input(out, alone(alloc, set))?;
+    let two: &[usize] = &[2];
+    let heights = input(out, Vec::from_slice(alloc, two))?;
+    let lists = input(out, alone(alloc, Vec::new(alloc)))?;
+    let plan = input(out, EnforcedPlan::<F7>::new(alloc, airs, heights, lists))?;
+    let kinds: &[bool] = &[true, false];
+    let lookup = input(out, Vec::from_slice(alloc, kinds))?;
+    let air = input(out, alone(alloc, lookup))?;
+    let queries = input(out, alone(alloc, air))?;
+    let answer = plan.check_weights(alloc, queries.as_slice());
+    show(out, "EnforcedPlan::check_weights", answer);
+    Some(())
+}
+
+/// The call that reads constraints off a fixed trace of two columns that are never both one.
+fn read_fixed(alloc: Global, out: &mut Out) -> Option<()> {
+    let fixed = trace::<F7>(alloc, out, &[1, 0, 0, 1], 2)?;
+    let found = fixed_constraints(alloc, &fixed, &[0, 1]);
+    show(out, "fixed_constraints", found);
+    Some(())
+}
+
+/// The calls that take memory: extraction, what is enforced, plans that are accepted and refused, and what
+/// a fixed trace says.
 pub fn constraints(alloc: Global, out: &mut Out) {
     let both = ConstrainedLookups::<F7>::from_air::<F7, EachRecord>(alloc, &EachRecord);
     show(out, "ConstrainedLookups::from_air", both);
@@ -56,4 +83,6 @@ pub fn constraints(alloc: Global, out: &mut Out) {
         let _ = make_plan(alloc, out, list);
     }
     let _ = make_plan(alloc, out, Vec::new(alloc));
+    let _ = check_weights(alloc, out);
+    let _ = read_fixed(alloc, out);
 }

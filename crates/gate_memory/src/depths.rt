@@ -7,12 +7,14 @@ use crate::generations::show_generated;
 use crate::sets::{pack_lookups, show_degrees};
 use crate::texts::written;
 use crate::trees;
-use air::{Expression, SymbolicExpression, SymbolicExpressionExt};
+use air::{Expression, SymbolicExpression, SymbolicExpressionExt, Traces};
+use air_constraints::check_constraints;
 use field::F7;
 use gate_memory_builders::inputs::{BALANCED, alone, trace};
 use gate_memory_builders::over::{Call, over_recorder};
 use gate_memory_builders::show::{Out, input, show};
 use lookup::{Kind, Lookup};
+use lookup_enforced::enforcements;
 use std::alloc::{AllocError, Global};
 
 /// An expression under one more layer.
@@ -85,6 +87,28 @@ fn on_tree(alloc: Global, out: &mut Out, tree: SymbolicExpression<F7>) {
     trees::on_tree(alloc, out, &tree);
     if let Some(trees) = input(out, alone(alloc, tree)) {
         over_recorder::<F7, F7>(alloc, Call::Resolve, out, trees.as_slice(), &[]);
+        on_constraints(alloc, out, trees.as_slice());
+    }
+}
+
+/// Calls on constraints: on a trace, and for a lookup of 1.
+fn on_constraints(alloc: Global, out: &mut Out, constraints: &[SymbolicExpression<F7>]) {
+    let one = SymbolicExpression::constant(F7::new(1));
+    if let Some(lookups) = input(out, one_lookup_of(alloc, one)) {
+        let shown = enforcements(alloc, constraints, lookups.as_slice(), 2);
+        show(out, "enforcements", shown);
+    }
+    if let Some(main) = trace(alloc, out, &BALANCED, 3) {
+        let traces = Traces {
+            main: &main,
+            preprocessed: None,
+            public_values: &[],
+        };
+        show(
+            out,
+            "check_constraints",
+            check_constraints(constraints, &traces),
+        );
     }
 }
 

@@ -100,21 +100,23 @@ module _ {F : Type 0} (R : Ring F) where
       one None shown = tt
       one (Some n) shown = λ w q. shown w (fewer w q)
 
+  -- flags that are lawful on some rows are so on the rows of traces of a height on which constraints hold, if these are among them
+  pub flags_fewer : (eq : F → F → Bool) (P : Window F → Type 0) (height : ℕ) (constraints : List (SymbolicExpression F)) → ((w : Window F) → IsRowOf height w → Hold R w constraints → P w)
+      → (o : Option (Vec (SymbolicExpression F) Global)) → IfSome o (λ flags. (w : Window F) → P w → IsLawfulSelection R eq (values R w flags.items))
+      → IfSome o (λ flags. (w : Window F) → IsRowOf height w → Hold R w constraints → IsLawfulSelection R eq (values R w flags.items))
+  flags_fewer eq P height constraints rows None lawful = tt
+  flags_fewer eq P height constraints rows (Some flags) lawful = λ w row hold. lawful w (rows w row hold)
+
   -- what is shown on all rows of traces of a height is enforced
   pub shown_is_enforced : (eq : F → F → Bool) (P : Window F → Type 0) (height : ℕ) (constraints : List (SymbolicExpression F)) → ((w : Window F) → IsRowOf height w → Hold R w constraints → P w)
       → (lookup : Lookup F) (e : Enforcement) → IsShownOn R eq P lookup e → IsEnforcement R eq height constraints lookup e
   shown_is_enforced eq P height constraints rows lookup e shown = record {
-    flags = λ t. of_flags lookup.flags (shown.flags t);
+    flags = λ t. flags_fewer eq P height constraints rows lookup.flags (shown.flags t);
     missing = shown.missing;
     plain = shown.plain;
     bounds = of_bounds lookup.multiplicities.items e.bounds.items (bounds_fewer P (λ w. IsRowOf height w × Hold R w constraints) (λ w q. rows w q.0 q.1) lookup.multiplicities.items e.bounds.items shown.bounds);
   }
     where
-      of_flags : (o : Option (Vec (SymbolicExpression F) Global)) → IfSome o (λ flags. (w : Window F) → P w → IsLawfulSelection R eq (values R w flags.items))
-          → IfSome o (λ flags. (w : Window F) → IsRowOf height w → Hold R w constraints → IsLawfulSelection R eq (values R w flags.items))
-      of_flags None lawful = tt
-      of_flags (Some flags) lawful = λ w row hold. lawful w (rows w row hold)
-
       of_bounds : (ms : List (SymbolicExpression F)) (bs : List (Option ℕ)) → AllZip (λ m b. IfSome b (λ n. (w : Window F) → IsRowOf height w × Hold R w constraints → IsWithin R n (value R w m))) ms bs
           → AllZip (λ m b. IfSome b (λ n. (w : Window F) → IsRowOf height w → Hold R w constraints → IsWithin R n (value R w m))) ms bs
       of_bounds [] [] all = tt

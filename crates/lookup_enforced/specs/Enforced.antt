@@ -9,6 +9,7 @@ use Rattle.air_expressions.specs.declared.base_expression.SymbolicExpression.{Sy
 use Rattle.field.specs.Ring.{Ring}
 use Rattle.lookup.specs.Weights.{KeepsWeight, Role}
 use Rattle.lookup_enforced.specs.declared.enforcement.Enforcement.{Enforcement}
+use Rattle.lookup_enforced.specs.declared.enforcement.Missing.{Missing}
 use Rattle.lookup_model.specs.Fault.{IsLawfulSelection}
 use Rattle.lookup_model.specs.Sent.{chosen_branches, flags_at, sent_at, value, values}
 use Rattle.lookup_model.specs.declared.types.Lookup.{Lookup}
@@ -41,6 +42,11 @@ module _ {F : Type 0} (R : Ring F) where
     EnforcesWeight lookup queries =
         HoldsOnRows height constraints (λ w. (roles : List Role) × (map is_some roles ≡ queries)
         × ((id : ℕ) → KeepsWeight R lookup (sent_at R eq w id lookup) (sent_items R eq (flags_at R w lookup) roles)))
+
+    -- The flags of a lookup are enforced if nothing is missing, and nothing is where there are no flags.
+    pub record IsMissing (lookup : Lookup F) (missing : Option Missing) : Type 0 where
+      pub enforces : IsNone missing → EnforcesFlags lookup
+      pub plain : IsNone lookup.flags → IsNone missing
 
     -- What is shown of a lookup is so: its flags are enforced if nothing is missing, and each multiplicity that
     -- has a bound is within it. Nothing is missing where there are no flags.

@@ -12,5 +12,5 @@ mod weight;
 
 pub use constrained::ConstrainedLookups;
 pub use enforcement::{Enforcement, Missing};
-pub use shown::enforcements;
+pub use shown::{enforcements, missing_flags};
 pub use weight::keeps_weight;

@@ -2,7 +2,7 @@
 ghost use Rattle.std.specs.Prelude.{IfOk, IfSome, IsNone};
 ghost use Rattle.std.specs.List.{AllZip};
 ghost use Rattle.air_expressions.specs.Window.{Window};
-ghost use Rattle.lookup_enforced.specs.Enforced.{IsEnforcement};
+ghost use Rattle.lookup_enforced.specs.Enforced.{IsEnforcement, IsMissing};
 ghost use Rattle.lookup_enforced.specs.internal.Shown.{IsAnyOf, IsShownOn};
 ghost use Rattle.lookup_model.specs.Fault.{IsLawfulSelection};
 ghost use Rattle.lookup_model.specs.Sent.{values};
@@ -52,6 +52,28 @@ fn enforcement<F: Field>(
         bounds,
         missing,
     })
+}
+
+/// The first thing that is not shown of the flags of each lookup of an AIR, on all rows of traces of this height on which
+/// its constraints hold: nothing where the flags are shown to be lawful, and of a lookup without flags.
+///
+/// It is what [`enforcements`] has of them, without the bounds. Fails only when out of memory.
+pub fn missing_flags<F: Field>(
+    alloc: Global,
+    constraints: &[SymbolicExpression<F>],
+    lookups: &[Lookup<F>],
+    height: usize,
+) -> Result<Vec<Option<Missing>>, AllocError>
+    ensures { IfOk result (λ ms. AllZip (IsMissing F.ring F.eq height constraints.now)
+        lookups.now ms.items) }
+{
+    let rows = rows_of(alloc, constraints, height)?;
+    let mut missing = Vec::with_capacity(alloc, lookups.len())?;
+    for lookup in lookups {
+        let one = missing_of(alloc, lookup, rows.as_slice())?;
+        missing.push(one)?;
+    }
+    Ok(missing)
 }
 
 /// What the constraints of an AIR are shown to enforce of each of its lookups, on all rows of traces of this height on

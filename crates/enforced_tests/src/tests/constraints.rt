@@ -10,7 +10,7 @@ use std::alloc::{AllocError, Global};
 type Base = SymbolicExpression<F7>;
 
 /// A trace of so many columns.
-fn trace_of(alloc: Global, numbers: &[u32], width: usize) -> Option<RowMajorMatrix<F7>> {
+pub(super) fn trace_of(alloc: Global, numbers: &[u32], width: usize) -> Option<RowMajorMatrix<F7>> {
     let mut values = Vec::new(alloc);
     for number in numbers {
         values.push(F7::new(*number)).ok()?;

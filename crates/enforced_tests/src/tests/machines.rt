@@ -73,7 +73,7 @@ fn read<F: Field>(rt: &impl Abort, alloc: Global, text: &str) -> Vec<SymbolicExp
 
 /// What is shown of a lookup with these flags and counts, each for a tuple of no elements; without flags where there
 /// is no text of them.
-fn shown<F: Field>(
+pub(super) fn shown<F: Field>(
     rt: &impl Abort,
     alloc: Global,
     constraints: &str,

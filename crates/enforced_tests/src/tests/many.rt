@@ -34,15 +34,22 @@ fn one_hot(alloc: Global, count: usize) -> Result<Vec<Base>, AllocError> {
     Ok(constraints)
 }
 
-/// A lookup with a flag for each of the first cells, and a tuple without elements for each.
-fn lookup(alloc: Global, count: usize) -> Result<Lookup<BabyBear>, AllocError> {
+/// The first cells, as far as `count`.
+fn cells(alloc: Global, count: usize) -> Result<Vec<Base>, AllocError> {
+    let mut cells = Vec::new(alloc);
+    for index in 0..count {
+        cells.push(cell(index))?;
+    }
+    Ok(cells)
+}
+
+/// A lookup with these flags, and a tuple without elements for each.
+fn lookup(alloc: Global, flags: Vec<Base>) -> Result<Lookup<BabyBear>, AllocError> {
     let mut elements = Vec::new(alloc);
     let mut multiplicities = Vec::new(alloc);
-    let mut flags = Vec::new(alloc);
-    for index in 0..count {
+    for _ in 0..flags.len() {
         elements.push(Vec::new(alloc))?;
         multiplicities.push(Base::constant(BabyBear::ONE))?;
-        flags.push(cell(index))?;
     }
     Ok(Lookup {
         kind: Kind::Local,
@@ -54,9 +61,9 @@ fn lookup(alloc: Global, count: usize) -> Result<Lookup<BabyBear>, AllocError> {
     })
 }
 
-/// Whether `count` flags are shown to be lawful under these constraints.
-fn are_shown(alloc: Global, constraints: &[Base], count: usize) -> Option<bool> {
-    let lookups = Vec::from_array(alloc, [lookup(alloc, count).ok()?]).ok()?;
+/// Whether flags are shown to be lawful under these constraints.
+fn are_shown(alloc: Global, constraints: &[Base], flags: Vec<Base>) -> Option<bool> {
+    let lookups = Vec::from_array(alloc, [lookup(alloc, flags).ok()?]).ok()?;
     let shown = enforcements(alloc, constraints, lookups.as_slice(), 8).ok()?;
     Some(shown.first()?.flags)
 }
@@ -66,8 +73,36 @@ fn are_shown(alloc: Global, constraints: &[Base], count: usize) -> Option<bool> 
 fn three_hundred_flags(rt: HostRuntime) {
     let alloc = rt.alloc();
     let constraints = one_hot(alloc, 300).expect(&rt, "memory");
-    let shown = are_shown(alloc, constraints.as_slice(), 300);
+    let flags = cells(alloc, 300).expect(&rt, "memory");
+    let shown = are_shown(alloc, constraints.as_slice(), flags);
     holds(&rt, "shown", shown == Some(true));
+}
+
+/// The sum of the cells from `start` on, before `end`.
+fn sum_of(alloc: Global, start: usize, end: usize) -> Result<Base, AllocError> {
+    let mut sum = Base::constant(BabyBear::ZERO);
+    for index in start..end {
+        sum = sum.add(alloc, cell(index))?;
+    }
+    Ok(sum)
+}
+
+/// Whether two sums of operations are shown to be lawful flags, of which one at most is set of two hundred. The first
+/// has those before 90, and the second those from `start` on, before 180.
+fn sums_are_shown(alloc: Global, start: usize) -> Option<bool> {
+    let constraints = one_hot(alloc, 200).ok()?;
+    let first = sum_of(alloc, 0, 90).ok()?;
+    let second = sum_of(alloc, start, 180).ok()?;
+    let flags = Vec::from_array(alloc, [first, second]).ok()?;
+    are_shown(alloc, constraints.as_slice(), flags)
+}
+
+/// A sum of many operations is a bit, and so is that of two such sums, unless they share an operation.
+#[test]
+fn sums_of_operations(rt: HostRuntime) {
+    let alloc = rt.alloc();
+    holds(&rt, "others", sums_are_shown(alloc, 90) == Some(true));
+    holds(&rt, "one of both", sums_are_shown(alloc, 89) == Some(false));
 }
 
 /// A product of sums that would have more than a million terms is left out.
@@ -81,9 +116,29 @@ fn a_large_product(rt: HostRuntime) {
         product = product.mul(alloc, more).expect(&rt, "memory");
     }
     constraints.push(product).expect(&rt, "memory");
+    let flags = cells(alloc, 4).expect(&rt, "memory");
     holds(
         &rt,
         "shown",
-        are_shown(alloc, constraints.as_slice(), 4) == Some(true),
+        are_shown(alloc, constraints.as_slice(), flags) == Some(true),
     );
+}
+
+/// A constraint of a hundred thousand nodes: `a * (a - 1)`, added to itself again and again. It shows that the cell is
+/// a bit, as its half does.
+#[test]
+fn a_hundred_thousand_nodes(rt: HostRuntime) {
+    let alloc = rt.alloc();
+    let less = cell(0)
+        .sub(alloc, Base::constant(BabyBear::ONE))
+        .expect(&rt, "memory");
+    let mut sum = cell(0).mul(alloc, less).expect(&rt, "memory");
+    for _ in 0..14 {
+        let other = sum.copy(alloc).expect(&rt, "memory");
+        sum = sum.add(alloc, other).expect(&rt, "memory");
+    }
+    let constraints = Vec::from_array(alloc, [sum]).expect(&rt, "memory");
+    let flags = cells(alloc, 1).expect(&rt, "memory");
+    let shown = are_shown(alloc, constraints.as_slice(), flags);
+    holds(&rt, "shown", shown == Some(true));
 }

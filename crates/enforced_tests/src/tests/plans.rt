@@ -1,5 +1,6 @@
 //! Plans with constraints: what is refused, and what is bounded.
 use super::{bits, group, holds, list, local, set};
+use air_constraints::RowKind;
 use air_expressions::SymbolicExpression;
 use batch::{BatchError, HeightSoundness};
 use batch_enforced::{
@@ -7,8 +8,15 @@ use batch_enforced::{
 };
 use field::F7;
 use lookup::Lookups;
+use lookup_enforced::Missing;
 use std::alloc::Global;
 use std::process::Abort;
+
+/// The first of several rows.
+const FIRST: RowKind = RowKind {
+    is_first: true,
+    is_last: false,
+};
 
 /// The refusal of the plan of these AIRs at these heights, if there is one.
 fn refusal(
@@ -21,12 +29,12 @@ fn refusal(
 }
 
 /// An AIR with a local lookup alone, which needs no constraints.
-fn plain(rt: &impl Abort, alloc: Global) -> Lookups<F7> {
+pub(super) fn plain(rt: &impl Abort, alloc: Global) -> Lookups<F7> {
     set(rt, alloc, list(rt, alloc, [local(rt, alloc, 0)]))
 }
 
 /// An AIR with a local lookup and a group.
-fn memory(rt: &impl Abort, alloc: Global) -> Lookups<F7> {
+pub(super) fn memory(rt: &impl Abort, alloc: Global) -> Lookups<F7> {
     let records = list(rt, alloc, [local(rt, alloc, 0), group(rt, alloc, 1)]);
     set(rt, alloc, records)
 }
@@ -65,7 +73,11 @@ fn flags_that_are_not_enforced(rt: HostRuntime) {
                 Some(bus) => bus.as_str() == "memory",
                 None => false,
             };
-            unshown.air == 1 && unshown.lookup == 1 && bus && unshown.missing.is_some()
+            let first = Missing::Flag {
+                flag: 0,
+                kind: FIRST,
+            };
+            unshown.air == 1 && unshown.lookup == 1 && bus && unshown.missing == first
         }
         _ => false,
     };
@@ -161,9 +173,22 @@ fn texts(rt: HostRuntime) {
         air: 3,
         lookup: 1,
         bus: Some(String::from_str(alloc, "memory").expect(&rt, "memory")),
-        missing: None,
+        missing: Missing::Flag {
+            flag: 0,
+            kind: FIRST,
+        },
     });
     let text = format!(in alloc; "{refused}").expect(&rt, "memory");
-    let wanted = "air 3, lookup 1 on bus memory: flags are not shown to be lawful";
+    let wanted = "air 3, lookup 1 on bus memory: flag 0 is not shown to be 0 or 1 on the first row";
     holds(&rt, "a group", text.as_str() == wanted);
+    let refused = EnforcementError::Flags(UnshownFlags {
+        air: 0,
+        lookup: 2,
+        bus: None,
+        missing: Missing::Exclusive { kind: FIRST },
+    });
+    let text = format!(in alloc; "{refused}").expect(&rt, "memory");
+    let wanted =
+        "air 0, local lookup 2: it is not shown that at most one flag is 1 on the first row";
+    holds(&rt, "a local lookup", text.as_str() == wanted);
 }

@@ -1,0 +1,7 @@
+use Rattle.air_constraints.specs.Fixed.{HoldOverFixed}
+use Rattle.air_constraints.proofs.fixed.push_products.Given as goal
+
+abbrev pub invariant-loop-column : goal.invariant-loop-column
+invariant-loop-column g l =
+    let R = g.F.PrimeCharacteristicRing.ring in
+    HoldOverFixed R l.preprocessed l.initial.found.items → HoldOverFixed R l.preprocessed l.found.items
