@@ -2,7 +2,7 @@
 ghost use Rattle.std.specs.Prelude.{◌≡◌, ◌↔◌, ◌<◌, ℕ, All, IfOk, IsTrue, MatchOption, None, Some, length, map, slice_get};
 ghost use Rattle.std.specs.List.{AllZip};
 ghost use Rattle.air.specs.Traces.{AirTraces, height_of, traces_of, window_of};
-ghost use Rattle.check_judge.specs.Airs.{AreFittingAirs};
+ghost use Rattle.check_judge.specs.Airs.{AreFittingAirs, IsFittingAir};
 ghost use Rattle.check_judge.specs.Constraints.{over_constrained};
 ghost use Rattle.check_judge.specs.Counts.{counts_for};
 ghost use Rattle.check_judge.specs.Excesses.{AreExcesses, CountsMore, IsExcess, IsExcessFound, IsSetAt, IsWithin, most_of, size_of};
@@ -32,6 +32,7 @@ pub(crate) fn excesses_of<F: TableField>(
     alloc: Global,
     airs: &[AirOver<F>],
 ) -> Result<Vec<Vec<Option<Excess<F>>>>, AllocError>
+    requires { AreFittingAirs airs.now }
     ensures { IfOk result (λ v. AllZip (λ air found. AreExcesses F.CHARACTERISTIC F.number F.ring F.eq
         (over_constrained air) found.items) airs.now v.items) }
 {
@@ -48,6 +49,7 @@ fn excesses_of_air<F: TableField>(
     alloc: Global,
     air: &AirOver<F>,
 ) -> Result<Vec<Option<Excess<F>>>, AllocError>
+    requires { IsFittingAir air.now }
     ensures { IfOk result (λ v. AreExcesses F.CHARACTERISTIC F.number F.ring F.eq
         (over_constrained air.now) v.items) }
 {

@@ -81,6 +81,9 @@ returns-clause-found g c =
 pub failures_of-requires : goal.failures_of-requires
 failures_of-requires g c = subst AreFittingAirs (sym c.deref-8.ensures.value) c.in_ok-airs.ensures.fit
 
+pub excesses_of-requires : goal.excesses_of-requires
+excesses_of-requires g c = subst AreFittingAirs (sym c.deref-11.ensures.value) c.in_ok-airs.ensures.fit
+
 pub returns-clause-constraints : goal.returns-clause-constraints
 returns-clause-constraints g c =
     let R = g.F.PrimeCharacteristicRing.ring in

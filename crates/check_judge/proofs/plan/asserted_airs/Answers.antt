@@ -25,10 +25,10 @@ loop-index-preserved g c =
     record {
       lookups = one_more (λ a. lookups_of a.lookups.now) lookups_of before _ _ c.args.sets.now i c.index-sets-index.result within_sets c.index-sets-index.is more refl inv.lookups;
       constraints = one_more (λ a. map tree_of a.constraints.items) (λ n. constraints_in element (map constraint_of n.constraints.items)) before _ _ c.args.named.now i c.index-named-index.result within_named c.index-named-index.is more
-          (c.in_ok-constraints.ensures ∙ ap (λ ns. constraints_in element (map constraint_of ns)) c.deref.ensures.value) inv.constraints;
+          (c.in_ok-constraints.ensures ∙ (ap (λ ns. constraints_in element (map constraint_of ns)) c.deref.ensures.value ∙ ap (λ n. constraints_in element (map constraint_of n.constraints.items)) (sym c.index-named-index.is))) inv.constraints;
       counts = one_more (λ a. map (λ v. v.items) a.counts.items) (λ a. counts_in (air_of a.now).items) before _ _ c.args.said.now i c.index-said-index.result within_said c.index-said-index.is more
-          (c.in_ok-counts.ensures ∙ ap (λ items. counts_in (map placed_of items)) c.deref-2.ensures.value) inv.counts;
-      heights = one_more (λ a. a.height) (λ s. (shape_of s).rows) before _ _ c.args.shapes.now i c.index-shapes-index.result c.loop-index-test.true c.index-shapes-index.is more refl inv.heights;
+          (c.in_ok-counts.ensures ∙ (ap (λ items. counts_in (map placed_of items)) c.deref-in-loop-index.ensures.value ∙ ap (λ a. counts_in (air_of a.now).items) (sym c.index-said-index.is))) inv.counts;
+      heights = one_more (λ a. a.height) (λ s. (shape_of s).rows) before _ _ c.args.shapes.now i c.index-shapes-index.result c.loop-index-test.true c.index-shapes-index.is more (ap (λ s. (shape_of s).rows) (sym c.index-shapes-index.is)) inv.heights;
     }
 
 pub returns-clause-lookups : goal.returns-clause-lookups

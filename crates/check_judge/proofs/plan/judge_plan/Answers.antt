@@ -69,7 +69,7 @@ asserted_airs-requires-clause-said g c =
     let shapes = c.args.shapes.now in
     let named = c.in_ok-named.named.items in
     let said = c.in_ok-said.said.items in
-    let airs = says_airs c.args.text.now sections 1048576 (airs_of sections) (map shape_of shapes) (map said_of named) c.in_ok-named.ensures in
+    let airs = says_airs c.args.text.now sections 1048576 1048576 (airs_of sections) (map shape_of shapes) (map said_of named) c.in_ok-named.ensures in
     omega (arith, airs, ap length c.in_ok-said.ensures, length-map said (λ a. air_of a.now), length-map shapes shape_of, ap length c.deref-5.ensures.value)
 
 pub asserted_airs-requires-clause-named : goal.asserted_airs-requires-clause-named
