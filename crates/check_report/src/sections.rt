@@ -26,7 +26,7 @@ pub fn push_report<F: TableField>(
 ) -> Result<(), AllocError>
     ensures { OnOk result ((front : List ℕ)
         × (page.new.bytes.items ≡ front ++ (verdict_line report.now.balanced report.now.hold report.now.within
-        ++ enforced_line told.enforced report.now.enforced.all))) }
+        ++ enforced_line told.entry.enforced report.now.enforced.all))) }
 {
     push_sizes(page, told, &report.plan.airs)?;
     push_heights(page, &report.plan)?;

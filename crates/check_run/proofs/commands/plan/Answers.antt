@@ -25,8 +25,8 @@ returns-in-Ok g c =
     let lookups = found.2 in
     let report = c.in-Ok.judged.report in
     let enforced = c.in-Ok.judged.enforced in
-    let meets = subst (λ alphas. IsTrue c.meets.result ↔ MeetsTarget c.args.field.challenges c.args.task.target c.for_all_traces.result.betas alphas) c.for_all_traces.ensures.1 c.meets.ensures in
-    let target = subst (λ betas. IsTrue c.meets.result ↔ MeetsTarget c.args.field.challenges c.args.task.target betas report.heights.accepting_alphas) c.for_all_traces.ensures.0 meets in
+    let meets = subst (λ alphas. IsTrue c.meets-meets.result ↔ MeetsTarget c.args.field.challenges c.args.task.target c.for_all_traces.result.betas alphas) c.for_all_traces.ensures.1 c.meets-meets.ensures in
+    let target = subst (λ betas. IsTrue c.meets-meets.result ↔ MeetsTarget c.args.field.challenges c.args.task.target betas report.heights.accepting_alphas) c.for_all_traces.ensures.0 meets in
     record {
       sections = sections;
       read = c.in_ok-batch.ensures;
@@ -44,7 +44,7 @@ returns-in-Ok g c =
       assertions = found.4;
       asserted = subst (λ ss. AreAsserted (of_nat g.F.PrimeCharacteristicRing.ring) text (airs_of sections) (map shape_of ss) found.1 found.4) c.deref.ensures.value found.8;
       enforces = found.9;
-      yes = good_if_asked c.meets.result c.args.task.enforced enforced.all c.is_yes.result c.is_yes.ensures target found.10;
+      yes = good_if_asked c.meets-meets.result c.args.task.enforced enforced.all c.is_yes.result c.is_yes.ensures target found.10;
     }
 
 pub returns : goal.returns
