@@ -291,6 +291,7 @@ SWEPT = [
     f"witness {FIRST}", f"accept {FIRST} --witness examples/first/witness.txt", f"any {FIRST}",
     "bits --messages 1000 --width 3 --json", "check examples/first/unbalanced.lookups --field f7 --json",
     "plan examples/range/range.lookups --target 101", "pack examples/packing/packing.lookups --degree 3",
+    "check examples/trusted/trusted.lookups",
 ]  # fmt: skip
 
 
