@@ -122,7 +122,7 @@ class Batch:
         bus = self.draw.choice(self.buses)
         width = self.widths.setdefault(bus, self.draw.choice([1, 2]))
         tuple_text = ", ".join(self.sum() for _ in range(width))
-        count = " times 1 at most 0" if self.is_small else ""
+        count = self.draw.choice([" times 0 at most 0", " times 0 at most 0", " times 1 at most 0"]) if self.is_small else ""
         return f"send {self.named(bus)}({tuple_text}){count}\n    receive {self.named(bus)}({tuple_text}){count}"
 
     def definition(self):
@@ -278,6 +278,8 @@ def words_of_seed(seed):
         words += ["--degree", str(draw.choice([2, 3, 4, 6]))]
     if words[0] == "check" and draw.random() < 0.15:
         words += ["--limit", str(draw.choice([1, 2, 9]))]
+    if words[0] != "pack" and draw.random() < 0.15:
+        words += ["--enforced"]
     return words
 
 

@@ -92,6 +92,24 @@ def failure_of(air):
     return None
 
 
+def excess_of(air, lookup):
+    """The first message of a lookup that counts more on a row than `at most` says, by its number, with the first such row
+    and its count there; or None. A message counts if its lookup has no flags, or its own flag is 1."""
+    for number, (part, branch) in enumerate(zip(lookup.parts, lookup.branches)):
+        most = part.message.most
+        for row in range(len(air.main.rows)) if most is not None else []:
+            count = value_of(branch.count, air, row)
+            is_sent = branch.flag is None or value_of(branch.flag, air, row) == 1
+            if is_sent and min(count, ASKED.characteristic - count) > most:
+                return number, row, count
+    return None
+
+
+def excesses_of(air):
+    """The same of each lookup of an AIR."""
+    return [excess_of(air, lookup) for lookup in air.lookups]
+
+
 # --- degrees ---
 
 

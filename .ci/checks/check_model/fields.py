@@ -10,13 +10,14 @@ FIELDS = {
     b"koalabear4": Field(2130706433, "KoalaBear^4", 4, 3),
     b"goldilocks2": Field(2**64 - 2**32 + 1, "Goldilocks^2", 2, 7),
 }
-# What the words of a run ask for: the field, how many tuples and places are told, the degree of packed columns, and how
-# many bits are wanted, or None.
+# What the words of a run ask for: the field, how many tuples and places are told, the degree of packed columns, how many
+# bits are wanted, or None, and whether all has to be enforced.
 ASKED = types.SimpleNamespace()
 
 
-def ask(field=b"babybear4", limit=4, degree=3, target=None):
-    vars(ASKED).update(FIELDS[field]._asdict(), name=field.decode(), limit=limit, degree=degree, target=target)
+def ask(field=b"babybear4", limit=4, degree=3, target=None, enforced=False):
+    options = {"limit": limit, "degree": degree, "target": target, "enforced": enforced}
+    vars(ASKED).update(FIELDS[field]._asdict(), name=field.decode(), **options)
 
 
 ask()

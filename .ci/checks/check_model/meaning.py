@@ -11,8 +11,9 @@ SELECTORS = (b"is_first_row", b"is_last_row", b"is_transition")
 # An AIR over its tables. `fixed` is the preprocessed table, or None.
 Whole = collections.namedtuple("Whole", "said main fixed lookups constraints")
 # A lookup, which is one column. `bus` is None where it is local, and `weights` are those of its messages. A branch has
-# a flag, or None, the values of its tuple and its count, as expressions whose names are found.
-Lookup = collections.namedtuple("Lookup", "at word bus exclusive branches weight weights")
+# a flag, or None, the values of its tuple and its count, as expressions whose names are found. `parts` are the same as
+# they are written.
+Lookup = collections.namedtuple("Lookup", "at word bus exclusive branches weight weights parts")
 Branch = collections.namedtuple("Branch", "flag tuple count")
 # An expression that is zero on every row, whose names are found.
 Constraint = collections.namedtuple("Constraint", "at zero")
@@ -263,7 +264,7 @@ def lookup_of(scope, declared, item):
     exclusive = item.kind == "exclusive"
     weight = max(weights) if exclusive else sum(weights)
     word = first.verb if item.kind == "message" else item.kind
-    return Lookup(item.at, word, first.bus, exclusive, branches, weight, weights)
+    return Lookup(item.at, word, first.bus, exclusive, branches, weight, weights, item.said)
 
 
 def constraint_of(scope, item):

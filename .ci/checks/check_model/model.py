@@ -1,13 +1,14 @@
 #!/usr/bin/env python3
 """A plain model of `lookup-check`: what it has to write, and its status.
 
-usage: model.py check|plan|pack FILE [--field NAME] [--degree D] [--limit N] [--target B] [--json]
+usage: model.py check|plan|pack FILE [--field NAME] [--degree D] [--limit N] [--target B] [--json] [--enforced]
        model.py bits --messages N [--unbalanced K] [--width W] [--field NAME] [--target B] [--json]
        model.py witness|any FILE --alpha A --beta B [--field NAME]
        model.py accept FILE --alpha A --beta B --witness FILE [--field NAME]
 
 It is written from docs/guide/CHECK.md and its reference, CHECK_REFERENCE.md, and shares nothing with the program. Where
-they do not say how a text is worded, the pattern of it is written in place of the text.
+they do not say how a text is worded, the pattern of it is written in place of the text. What constraints enforce the
+model does not say, but of what the program says of it whether it can be.
 """
 import os
 import re
@@ -37,11 +38,11 @@ def refusal(errors):
 
 def told(file, text, folder, report):
     """The answer of a batch with this text, whose tables are beside it in a folder. A report gives its text and whether
-    it says yes."""
+    it says yes, or two of which one has to be."""
     sections = []
     try:
         sections = reading.batch_of(text)
-        report_told, well = report(sections, folder, text)
+        answers = [Answer(0 if well else 1, it, b"") for it, well in report(sections, folder, text)]
     except reading.Fault as fault:
         hint = near.hint_of(sections, folder, text, fault.at, fault.why)
         return refusal(telling.refused_at(file, text, fault.at, fault.why, hint))
@@ -59,7 +60,7 @@ def told(file, text, folder, report):
         return refusal(ANY_REFUSAL)
     except Told as answer_told:
         return answer_told.args[0]
-    return Answer(0 if well else 1, report_told, b"")
+    return answers[0] if len(answers) == 1 else Either(answers)
 
 
 # --- reports ---
@@ -74,7 +75,7 @@ def well_formed(airs):
 
 
 def checked(options):
-    """`check`: whether all messages balance and all constraints hold."""
+    """`check`: whether all messages balance, all constraints hold, and no count is above its `at most`."""
 
     def report(sections, folder, text):
         airs, declared = meaning.airs_of(sections, folder)
@@ -108,7 +109,7 @@ def over_challenges(judged, lawful=True):
             well_formed(airs)
             if lawful:
                 counting.check_flags(airs)
-            return judged(witnesses.equations_of(airs, alpha, beta), options)
+            return [judged(witnesses.equations_of(airs, alpha, beta), options)]
 
         return report
 
@@ -130,7 +131,7 @@ def any_told(equations, _options):
     return b"NO WITNESS: at these challenges none is accepted\n", False
 
 
-ACCEPTED = b"ACCEPTED: the witness satisfies all constraints, and its terminals sum to zero\n"
+ACCEPTED = b"ACCEPTED: the witness satisfies the constraints of all lookups, and its terminals sum to zero\n"
 NOT_FOR_A_ROW = re.compile(rb"NOT ACCEPTED: (?!air \d+: constraint failed)[^\n]+\n")
 
 
@@ -154,7 +155,7 @@ def accept_told(equations, options):
 COMMANDS = {
     b"check": checked,
     b"plan": planned(telling.plan_told, objects.planned),
-    b"pack": planned(lambda text, airs: (telling.pack_told(text, airs), True), objects.packed),
+    b"pack": planned(lambda text, airs: [(telling.pack_told(text, airs), True)], objects.packed),
     b"witness": over_challenges(witness_told),
     b"accept": over_challenges(accept_told, lawful=False),
     b"any": over_challenges(any_told),
@@ -162,7 +163,7 @@ COMMANDS = {
 
 # --- words ---
 
-ALONE = ("json",)
+ALONE = ("json", "enforced")
 NEEDED = {b"pack": {"degree"}, b"bits": {"messages"}, b"witness": {"alpha", "beta"}, b"any": {"alpha", "beta"}}
 NEEDED[b"accept"] = {"alpha", "beta", "witness"}
 
@@ -214,7 +215,8 @@ def answer(words):
     if None in options.values() or NEEDED.get(command, set()) - set(options):
         return None
     field = {"field": options["field"]} if "field" in options else {}
-    ask(**field, **{name: int(options[name]) for name in ("degree", "limit", "target") if name in options})
+    numbers = {name: int(options[name]) for name in ("degree", "limit", "target") if name in options}
+    ask(**field, **numbers, enforced="enforced" in options)
     if command == b"bits":
         return bits_answer(options)
     (file,) = files
@@ -244,7 +246,9 @@ def written(part):
     """A text, or one that says what has to be written."""
     if isinstance(part, bytes):
         return part
-    return part.text() if isinstance(part, objects.Json) else part.pattern + b"\n"
+    if isinstance(part, re.Pattern):
+        return part.pattern + b"\n"
+    return part.text()
 
 
 if __name__ == "__main__":

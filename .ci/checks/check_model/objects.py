@@ -1,9 +1,9 @@
 """The answers as JSON: what each member has to be."""
 import json
 
-from . import counting
+from . import counting, enforcing
 from .fields import ASKED, FIELDS
-from .telling import line_of, most_bits, signed
+from .telling import line_of, most_bits, signed, told_with
 
 
 class Json:
@@ -17,13 +17,44 @@ class Json:
 
     def unlike(self, found):
         """How a text is otherwise, or None."""
-        if found.count(b"\n") != 1 or not found.endswith(b"\n"):
-            return f"{found[:200]!r} is not one line"
         try:
-            value = json.loads(found.decode(), object_pairs_hook=once, parse_constant=none_such)
+            return next(unlike(self.value, value_in(found), "the answer"), None)
         except ValueError as why:
-            return f"{found[:200]!r} is no JSON: {why}"
-        return next(unlike(self.value, value, "the answer"), None)
+            return str(why)
+
+
+class EnforcedJson:
+    """An answer that tells what constraints enforce. It has to be what `told` makes of what it tells; of that it is
+    looked at whether it can be and is so."""
+
+    def __init__(self, _text, airs, told, is_all=None):
+        self.airs, self.told, self.is_all = airs, told, is_all
+
+    def text(self):
+        nothing = [[enforcing.Shown(None, None, [None for _ in it.parts]) for it in air.lookups] for air in self.airs]
+        return Json(self.told(nothing)).text()
+
+    def unlike(self, found):
+        try:
+            value = value_in(found)
+            enforced = enforcing.shown_in(self.airs, value.get("airs") if isinstance(value, dict) else None)
+            if wrong := next(unlike(self.told(enforced), value, "the answer"), None):
+                return wrong
+            enforcing.check_all(self.airs, enforced)
+        except (ValueError, enforcing.Untrue) as why:
+            return str(why)
+        wrong = self.is_all is not None and enforcing.is_all(enforced) != self.is_all
+        return f"status of {self.is_all}, where another answer is told" if wrong else None
+
+
+def value_in(found):
+    """The value that a text has on its one line."""
+    if found.count(b"\n") != 1 or not found.endswith(b"\n"):
+        raise ValueError(f"{found[:200]!r} is not one line")
+    try:
+        return json.loads(found.decode(), object_pairs_hook=once, parse_constant=none_such)
+    except ValueError as why:
+        raise ValueError(f"{found[:200]!r} is no JSON: {why}") from None
 
 
 def once(pairs):
@@ -68,7 +99,7 @@ def name_of(name):
         return None
 
 
-def of_air(text, air, is_checked=False):
+def of_air(text, air, is_checked=False, enforced=None):
     columns = counting.packed_columns(air.lookups)
     said = {
         "name": name_of(air.said.name),
@@ -87,16 +118,39 @@ def of_air(text, air, is_checked=False):
             file = name_of(next(item.said[1] for item in air.said.items if item.kind == "trace"))
             failed = {"row": row, "value": str(signed(value)), "file": file, "file_line": row + 2}
             said["constraints"][number]["failure"] = failed
+    if enforced is not None:
+        height = len(air.main.rows)
+        pairs = zip(air.lookups, enforced)
+        said["enforced"] = [enforcing.object_of(lookup, it, text, height) for lookup, it in pairs]
+    above = [it for it in enumerate(counting.excesses_of(air)) if it[1]] if is_checked else []
+    if above:
+        said["counts_above"] = [of_excess(text, air, *it) for it in above]
     return said
 
 
-def before_traces(text, airs, is_checked=False):
+def of_excess(text, air, lookup, excess):
+    """A count that is above what `at most` says."""
+    number, row, count = excess
+    message = air.lookups[lookup].parts[number].message
+    return {
+        "lookup": lookup,
+        "message": number,
+        "row": row,
+        "count": str(signed(count)),
+        "at_most": str(message.most),
+        "file": name_of(next(item.said[1] for item in air.said.items if item.kind == "trace")),
+        "file_line": row + 2,
+        "text_line": line_of(text, message.at),
+    }
+
+
+def before_traces(text, airs, enforced, is_checked=False):
     """What is said before any trace is seen; and where constraints fail, once they are checked."""
     most = counting.most_messages(airs)
     betas, alphas = counting.most_left(airs) if most else (None, None)
     return {
         "field": ASKED.name,
-        "airs": [of_air(text, air, is_checked) for air in airs],
+        "airs": [of_air(text, air, is_checked, it) for air, it in zip(airs, told_of(airs, enforced))],
         "height_sum": str(counting.height_sum(airs)),
         "characteristic": str(ASKED.characteristic),
         "ids": len(counting.ids_of(airs)),
@@ -110,6 +164,29 @@ def before_traces(text, airs, is_checked=False):
     }
 
 
+def told_of(airs, enforced):
+    """What is told that the constraints of each AIR enforce, or None."""
+    return enforced if enforcing.is_told(airs) else [None] * len(airs)
+
+
+def all_enforced(airs, enforced):
+    """Whether all is told to be enforced, where that is told."""
+    return {"enforced": enforcing.is_all(enforced)} if enforcing.is_told(airs) else {}
+
+
+def made_of(airs, enforced):
+    """What is told of lookups as far as it can be."""
+    if not enforcing.is_told(airs):
+        return []
+    return [[made_of_lookup(*pair) for pair in zip(air.lookups, it)] for air, it in zip(airs, enforced)]
+
+
+def made_of_lookup(lookup, it):
+    flags = it.flags is True if lookup.exclusive else None
+    weight = enforcing.stays_within(lookup, flags, it.bounds) if enforcing.has_queries(lookup) else None
+    return it._replace(flags=flags, weight=weight)
+
+
 def text_or_none(number):
     return None if number is None else str(number)
 
@@ -120,16 +197,27 @@ def target(bits):
 
 
 def packed(text, airs):
-    return object_of(airs=[of_air(text, air) for air in airs]), True
+    return [(object_of(airs=[of_air(text, air) for air in airs]), True)]
 
 
 def planned(text, airs):
     bits = most_bits(airs)
-    return object_of(**before_traces(text, airs), **target(bits)), counting.is_met(bits)
+
+    def told(enforced):
+        made = made_of(airs, enforced)
+        said = before_traces(text, airs, made)
+        return {"format": 1, **said, **all_enforced(airs, made), **target(bits)}
+
+    return answers_of(text, airs, told, counting.is_met(bits))
+
+
+def answers_of(text, airs, told, well):
+    """The answer, or two of which one has to be."""
+    return told_with(EnforcedJson, text, airs, told, well) if enforcing.is_told(airs) else [(Json(told([])), well)]
 
 
 def checked(text, airs, messages):
-    """The answer of `check`, and whether all messages balance and all constraints hold."""
+    """The answer of `check`, and whether all messages balance, all constraints hold, and no count is above its `at most`."""
     keys, unbalanced = counting.key_counts(airs, messages)
     betas, alphas = counting.left_of(keys, unbalanced, counting.widest_of(airs)) if unbalanced else (None, None)
     traces = {
@@ -140,12 +228,20 @@ def checked(text, airs, messages):
         "bits": counting.bits_of(betas, alphas) if unbalanced else None,
     }
     groups = counting.groups_of(airs, messages)
-    well = not any(group.unbalanced for group in groups)
+    balanced = not any(group.unbalanced for group in groups)
     buses = [of_group(text, airs, group) for group in groups]
     hold = not any(map(counting.failure_of, airs))
-    of_constraints = {"constraints_hold": hold} if any(air.constraints for air in airs) else {}
-    said = before_traces(text, airs, is_checked=True)
-    return object_of(**said, traces=traces, buses=buses, balanced=well, **of_constraints), well and hold
+    within = not any(map(any, map(counting.excesses_of, airs)))
+    has_most = any(part.message.most is not None for air in airs for it in air.lookups for part in it.parts)
+    of_rows = {"constraints_hold": hold} if any(air.constraints for air in airs) else {}
+    of_rows.update({"counts_within": within} if has_most else {})
+
+    def told(enforced):
+        made = made_of(airs, enforced)
+        front = {"format": 1, **before_traces(text, airs, made, is_checked=True), "traces": traces, "buses": buses}
+        return {**front, "balanced": balanced, **of_rows, **all_enforced(airs, made)}
+
+    return answers_of(text, airs, told, balanced and hold and within)
 
 
 def of_group(text, airs, group):

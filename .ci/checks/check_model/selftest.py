@@ -3,7 +3,7 @@ the one that is wanted."""
 import collections
 import shutil
 
-from . import batches, option_texts, selftest_more, showing, telling, texts, witness_texts
+from . import batches, enforced_texts, option_texts, selftest_more, showing, telling, texts, witness_texts
 from .fields import FIELDS, ask
 from .running import Answer, differences, room, unlawful, written
 from .texts import REFUSED, long_faults, memory_faults
@@ -172,7 +172,7 @@ def of_batches():
 
 def judge_itself():
     """Tests the judge. Returns the status."""
-    more = [it for row in selftest_more.rows() for it in counted(*row)]
+    more = [it for rows in (selftest_more.rows(), enforced_texts.rows()) for row in rows for it in counted(*row)]
     faults = [*of_answers(), *of_programs(), *of_shown(), *of_batches(), *more]
     for fault in faults:
         print(f"check_texts --judge: {fault}")

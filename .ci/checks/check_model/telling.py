@@ -1,7 +1,8 @@
 """How a report and a refusal are written."""
-from . import counting, meaning
+from . import counting, enforcing, meaning
 from .fields import ASKED, FIELDS
 from .reading import MARK
+from .running import apart
 
 # How many unbalanced tuples of a bus are compared, where fewer are told.
 COMPARED = 64
@@ -250,7 +251,7 @@ def bits_told(betas, alphas):
     return b"    challenges in %s: %d bits\n" % (ASKED.challenges.encode(), counting.bits_of(betas, alphas))
 
 
-def soundness_told(airs, messages):
+def soundness_told(airs, messages, enforced):
     keys, unbalanced = counting.key_counts(airs, messages)
     widest = counting.widest_of(airs)
     numbers = tuple(map(grouped, (keys, unbalanced, widest)))
@@ -259,26 +260,26 @@ def soundness_told(airs, messages):
     if unbalanced:
         left = counting.left_of(keys, unbalanced, widest)
         told += b"  " + left_told(left) + bits_told(*left)
-    return told + all_traces_told(airs)
+    return told + all_traces_told(airs, enforced)
 
 
 def left_told(left):
     return b"  all but %s betas leave at most %s alphas at which any witness is accepted\n" % tuple(map(grouped, left))
 
 
-def all_traces_told(airs):
+def all_traces_told(airs, enforced):
     most = counting.most_messages(airs)
     told = b"  whatever traces of these heights a prover picks: at most %s messages\n" % grouped(most)
     if most:
         left = counting.most_left(airs)
         told += b"    if they do not balance, all but %s betas leave at most %s alphas\n" % tuple(map(grouped, left))
         told += bits_told(*left)
-    return told
+    return told + premise_told(airs, enforced)
 
 
 def constraints_told(text, airs):
-    """Whether all constraints hold, and what is told of them."""
-    count = sum(len(air.constraints) for air in airs)
+    """Whether all constraints hold, and what is told of them on the rows."""
+    count = enforcing.constraint_count(airs)
     failures = [(air, counting.failure_of(air)) for air in airs]
     told = b""
     for air, failure in failures:
@@ -291,19 +292,115 @@ def constraints_told(text, airs):
     if told:
         return False, b"\nCONSTRAINTS (the first row of an AIR on which one is not zero)\n" + told
     hold = b"constraint holds" if count == 1 else b"constraints hold"
-    return True, b"\nCONSTRAINTS\n  %s %s on all rows of the traces\n" % (grouped(count), hold) if count else b""
+    if count:
+        return True, b"\nCONSTRAINTS\n  %s %s on all rows of the traces\n" % (grouped(count), hold)
+    return True, b"\nCONSTRAINTS\n  there are none\n" if enforcing.is_told(airs) else b""
 
 
-def constraint_counts_told(airs):
-    lines = [[shown(air.said.name), grouped(len(air.constraints))] for air in airs if air.constraints]
-    return b"\nCONSTRAINTS\n" + table(["air", "constraints"], lines, {1}) if lines else b""
+def excesses_told(text, airs):
+    """The counts that are above what `at most` says."""
+    told, is_of_query = b"", False
+    for air in airs:
+        file = next((item.said[1] for item in air.said.items if item.kind == "trace"), b"")
+        for lookup, excess in zip(air.lookups, counting.excesses_of(air)):
+            if excess:
+                number, row, count = excess
+                message = lookup.parts[number].message
+                places = (shown(air.said.name), grouped(signed(count)), shown(file), row + 2, row)
+                told += b"  %s: %s at %s:%d (row %d), " % places
+                places = (message.verb.encode(), line_of(text, message.at), grouped(message.most))
+                told += b"%s of line %d, at most %s\n" % places
+                is_of_query |= message.verb != "provide"
+    if not told:
+        return b""
+    told += b"  so the height bound says nothing of these traces\n" * is_of_query
+    return b"\nAT MOST (the first row on which a count is above it)\n" + told
 
 
+def where_they_hold(word, count):
+    """That so many constraints hold, behind a word; nothing where there are none."""
+    many = b" these %s constraints hold" % grouped(count) if count != 1 else b" this constraint holds"
+    return word + many if count else b""
+
+
+def premise_told(airs, enforced):
+    """For which traces a bound holds, where it is told what constraints enforce. That may be nothing that is told."""
+    if not enforcing.is_told(airs):
+        return b""
+    told = b"    for all traces" + where_they_hold(b" on which", enforcing.constraint_count(airs))
+    return told + (b"\n" if enforcing.is_all(enforced) else b", as long as what is marked TRUSTED is so\n")
+
+
+def enforced_told(text, airs, enforced):
+    """The table of what constraints enforce."""
+    count = enforcing.constraint_count(airs)
+    told = b"  whatever traces of these heights a prover picks" + where_they_hold(b", where", count) + b":\n"
+    lines, notes = [[b"air", b"lookup", b"flags", b"weight"]], [()]
+    for air, of_air in zip(airs, enforced):
+        for lookup, it in zip(air.lookups, of_air):
+            marks = (it.flags if lookup.exclusive else None, it.weight if enforcing.has_queries(lookup) else None)
+            lines.append([shown(air.said.name), called(text, lookup), *map(enforcing.MARKED.get, marks)])
+            notes.append(it.notes)
+    rows = lines_told(lines, set()).splitlines(keepends=True)
+    return told + b"".join(row + b"".join(below) for row, below in zip(rows, notes))
+
+
+def enforced_line(enforced):
+    """The line that answers whether all is enforced, if that is asked."""
+    if not ASKED.enforced:
+        return b""
+    if enforcing.is_all(enforced):
+        return b"\nENFORCED: all flags and weights are shown to be enforced\n"
+    return b"\nTRUSTED: not all flags and weights are shown to be enforced\n"
+
+
+class Enforced:
+    """A text that tells what constraints enforce, which has to be what `told` makes of what it tells: of that it is
+    looked at whether it can be and is so. `is_all` is whether all has to be enforced of it, or None."""
+
+    def __init__(self, text, airs, told, is_all=None):
+        self.read = text, airs
+        self.told, self.is_all = told, is_all
+
+    def text(self):
+        """The text where nothing is told of any lookup."""
+        return self.told([[enforcing.Shown() for _ in air.lookups] for air in self.read[1]])
+
+    def unlike(self, found):
+        text, airs = self.read
+        try:
+            enforced = enforcing.rows_in(text, airs, found, called, characters)
+            wanted = self.told(enforced)
+            if wanted != found:
+                return apart(wanted, found)
+            for air, of_air in zip(airs, enforced):
+                for lookup, it in zip(air.lookups, of_air):
+                    enforcing.check_notes(text, lookup, len(air.main.rows), it)
+            enforcing.check_all(airs, enforced)
+        except enforcing.Untrue as why:
+            return str(why)
+        wrong = self.is_all is not None and enforcing.is_all(enforced) != self.is_all
+        return f"status of {self.is_all}, where another answer is told" if wrong else None
+
+
+def told_with(kind, text, airs, told, well):
+    """What has to be written of this kind where it is told what constraints enforce, with the answer. If it is asked
+    whether all is enforced, that makes the answer as well, and so there are two."""
+    if not ASKED.enforced or not well:
+        return [(kind(text, airs, told), well)]
+    return [(kind(text, airs, told, is_all), is_all) for is_all in (True, False)]
+
+
+# By whether all messages balance, all constraints hold, and no count is above its `at most`.
 VERDICTS = {
-    (True, True): b"\nBALANCED: every tuple of every bus and local lookup cancels\n",
-    (False, True): b"\nNOT BALANCED\n",
-    (True, False): b"\nNOT SATISFIED: all messages balance, but a constraint fails\n",
-    (False, False): b"\nNOT BALANCED, and a constraint fails\n",
+    (True, True, True): b"\nBALANCED: every tuple of every bus and local lookup cancels\n",
+    (True, False, True): b"\nNOT SATISFIED: all messages balance, but a constraint fails\n",
+    (True, True, False): b"\nNOT SATISFIED: all messages balance, but a count is above its `at most`\n",
+    (True, False, False): b"\nNOT SATISFIED: all messages balance, but a constraint fails and a count is above its `at most`\n",
+    (False, True, True): b"\nNOT BALANCED\n",
+    (False, False, True): b"\nNOT BALANCED, and a constraint fails\n",
+    (False, True, False): b"\nNOT BALANCED, and a count is above its `at most`\n",
+    (False, False, False): b"\nNOT BALANCED, a constraint fails, and a count is above its `at most`\n",
 }
 
 
@@ -319,12 +416,19 @@ def most_bits(airs):
     return counting.bits_of(*counting.most_left(airs)) if counting.most_messages(airs) else None
 
 
-def plan_told(_text, airs):
-    """What is told of a batch before any trace is seen, and whether the target is met."""
+def plan_told(text, airs):
+    """What is told of a batch before any trace is seen, and whether the target is met and all is enforced that has to be."""
     bits = most_bits(airs)
-    told = airs_told(airs) + heights_told(airs) + b"\nSOUNDNESS\n" + all_traces_told(airs)
-    told += constraint_counts_told(airs)
-    return told + target_told(bits), counting.is_met(bits)
+
+    def told(enforced):
+        front = airs_told(airs) + heights_told(airs) + b"\nSOUNDNESS\n" + all_traces_told(airs, enforced)
+        if enforcing.is_told(airs):
+            front += b"\nCONSTRAINTS\n" + b"  there are none\n" * (enforcing.constraint_count(airs) == 0)
+            front += enforced_told(text, airs, enforced)
+        return front + target_told(bits) + enforced_line(enforced)
+
+    well = counting.is_met(bits)
+    return told_with(Enforced, text, airs, told, well) if enforcing.is_told(airs) else [(told([]), well)]
 
 
 def bits_table_told(messages, unbalanced, widest):
@@ -342,11 +446,20 @@ def bits_table_told(messages, unbalanced, widest):
 
 
 def report_told(text, airs, declared, messages):
-    """A report, and whether all messages balance and all constraints hold."""
+    """A report, and whether all messages balance, all constraints hold, no count is above its `at most`, and all is
+    enforced that has to be."""
     groups = counting.groups_of(airs, messages)
-    told = airs_told(airs) + heights_told(airs) + buses_told(airs, declared, groups)
-    told += b"".join(unbalanced_told(text, airs, declared, group) for group in groups)
-    told += soundness_told(airs, messages)
+    of_excesses = excesses_told(text, airs)
+    front = airs_told(airs) + heights_told(airs) + of_excesses + buses_told(airs, declared, groups)
+    front += b"".join(unbalanced_told(text, airs, declared, group) for group in groups)
     balanced = not any(group.unbalanced for group in groups)
     hold, of_constraints = constraints_told(text, airs)
-    return told + of_constraints + VERDICTS[balanced, hold], balanced and hold
+    verdict = VERDICTS[balanced, hold, not of_excesses]
+
+    def told(enforced):
+        middle = soundness_told(airs, messages, enforced) + of_constraints
+        middle += enforced_told(text, airs, enforced) if enforcing.is_told(airs) else b""
+        return front + middle + verdict + enforced_line(enforced)
+
+    well = balanced and hold and not of_excesses
+    return told_with(Enforced, text, airs, told, well) if enforcing.is_told(airs) else [(told([]), well)]

@@ -4,7 +4,7 @@ import subprocess
 from refused_memory.program import REFUSED
 from refused_memory.runs import swept
 
-from . import batches, option_texts, showing, witness_texts
+from . import batches, enforced_texts, option_texts, showing, witness_texts
 from .comparing import TOP, bytes_of, cases, compared, modelled, run_compared, wanted_of
 from .fields import FIELDS
 from .running import FILE, Answer, answer_of, differences, limit, room, unlawful, written
@@ -291,6 +291,7 @@ SWEPT = [
     f"witness {FIRST}", f"accept {FIRST} --witness examples/first/witness.txt", f"any {FIRST}",
     "bits --messages 1000 --width 3 --json", "check examples/first/unbalanced.lookups --field f7 --json",
     "plan examples/range/range.lookups --target 101", "pack examples/packing/packing.lookups --degree 3",
+    "check examples/trusted/trusted.lookups",
 ]  # fmt: skip
 
 
@@ -332,6 +333,7 @@ def tasks(program, shim):
         yield "random batches", random_swept, program, range(part, SEEDS, PARTS)
     for part in range(CHANGED_PARTS):
         yield "changed texts", changed_swept, program, FILE, part
+    yield from enforced_texts.tasks(program)
     yield from witness_texts.tasks(program)
     yield from option_texts.tasks(program)
     for name in (FILE, "gaps.csv"):

@@ -1,14 +1,23 @@
 //! Answers as JSON, one object on one line. Numbers that may be past 2^53 are texts, but for rows and targets.
+use air_constraints::RowKind;
 use air_expressions::SymbolicExpression;
-use check_judge::{AirReport, ConstraintFailure, Deceiving, PlanReport, Report, airs_of};
-use check_report::{Lines, Page, Told, air_name, is_constraint, lookup_at, magnitude, trace_file};
+use check_judge::{
+    AirReport, ConstraintFailure, Deceiving, EnforcedAir, EnforcedAirs, Excess, PlanJudgement,
+    PlanReport, Report, airs_of, magnitude,
+};
+use check_page::{
+    Lines, Page, Told, air_name, has_queries, is_constraint, is_lookup, lookup_at, message_at,
+    trace_file,
+};
+use check_report::is_enforcement_told;
 use check_words::BitsRequest;
 use field::PrimeCharacteristicRing;
 use field_list::{FieldEntry, TableField};
-use language::{BatchText, place_of};
+use language::{AirText, BatchText, ItemText, place_of};
 use language_meaning::{NamedAir, bytes_of, constraints_over};
 use lookup::Lookups;
 use lookup::debug_util::{BusGroup, GroupName, Place, UnbalancedTuple};
+use lookup_enforced::Missing;
 use serde::Serialize;
 use std::alloc::{AllocError, Global};
 
@@ -33,6 +42,8 @@ struct PlanObject<'a> {
     ids: usize,
     widest: usize,
     heights: HeightsObject,
+    #[serde(skip_serializing_if = "Option::is_none")]
+    enforced: Option<bool>,
     target: Option<u64>,
     meets: Option<bool>,
 }
@@ -53,6 +64,10 @@ struct ReportObject<'a> {
     balanced: bool,
     #[serde(skip_serializing_if = "Option::is_none")]
     constraints_hold: Option<bool>,
+    #[serde(skip_serializing_if = "Option::is_none")]
+    counts_within: Option<bool>,
+    #[serde(skip_serializing_if = "Option::is_none")]
+    enforced: Option<bool>,
 }
 
 /// `bits`.
@@ -81,6 +96,41 @@ struct AirObject<'a> {
     packed_lookups: &'a [Vec<usize>],
     #[serde(skip_serializing_if = "Vec::is_empty")]
     constraints: Vec<ConstraintObject<'a>>,
+    #[serde(skip_serializing_if = "Option::is_none")]
+    enforced: Option<Vec<EnforcedObject>>,
+    #[serde(skip_serializing_if = "Vec::is_empty")]
+    counts_above: Vec<ExcessObject<'a>>,
+}
+
+/// What constraints enforce of a lookup: whether its flags are shown to be lawful, if it has any; whether its weight is
+/// shown to be kept, if it has queries; a bound of each count, if one is shown; and what is not shown of the flags.
+#[derive(Drop, Serialize)]
+struct EnforcedObject {
+    text_line: usize,
+    flags: Option<bool>,
+    weight: Option<bool>,
+    bounds: Vec<Option<String>>,
+    missing: Option<MissingObject>,
+}
+
+/// What is not shown of flags on rows of a kind: that this one is 0 or 1, or else that at most one is 1.
+#[derive(Drop, Serialize)]
+struct MissingObject {
+    flag: Option<usize>,
+    rows: &'static str,
+}
+
+/// A count that is above what `at most` says.
+#[derive(Drop, Serialize)]
+struct ExcessObject<'a> {
+    lookup: usize,
+    message: usize,
+    row: usize,
+    count: String,
+    at_most: Option<String>,
+    file: Option<&'a str>,
+    file_line: u64,
+    text_line: usize,
 }
 
 /// A constraint: its line, and where it fails, if that is the first place of its AIR at which one does.
@@ -207,7 +257,7 @@ pub fn push_airs_json(
 ) -> Result<(), AllocError> {
     let object = AirsObject {
         format: FORMAT,
-        airs: air_objects(page.alloc(), told, airs)?,
+        airs: air_objects(page.alloc(), told, airs, &[])?,
     };
     push_object(page, &object)
 }
@@ -216,20 +266,22 @@ pub fn push_airs_json(
 pub fn push_plan_json(
     page: &mut Page,
     told: Told<'_>,
-    report: &PlanReport,
+    judged: &PlanJudgement,
     target: Option<u64>,
     is_met: bool,
 ) -> Result<(), AllocError> {
     let alloc = page.alloc();
+    let PlanJudgement { report, enforced } = judged;
     let object = PlanObject {
         format: FORMAT,
         field: told.field.name,
-        airs: air_objects(alloc, told, &report.airs)?,
+        airs: air_objects(alloc, told, &report.airs, &enforced.airs)?,
         height_sum: decimal(alloc, report.height_sum)?,
         characteristic: decimal(alloc, report.characteristic)?,
         ids: report.ids,
         widest: report.widest,
         heights: heights_object(alloc, told.field, report)?,
+        enforced: enforced_member(told, enforced),
         target,
         meets: target.map(|_| is_met),
     };
@@ -248,7 +300,7 @@ pub fn push_report_json<F: TableField>(
     for group in &report.groups {
         buses.push(bus_object(alloc, told, group)?)?;
     }
-    let mut airs = air_objects(alloc, told, &plan.airs)?;
+    let mut airs = air_objects(alloc, told, &plan.airs, &report.enforced.airs)?;
     let mut has_constraints = false;
     for (index, (air, failure)) in airs.iter_mut().zip(&report.failures).enumerate() {
         has_constraints = has_constraints || !air.constraints.is_empty();
@@ -257,6 +309,10 @@ pub fn push_report_json<F: TableField>(
                 constraint.failure = Some(failure_object(alloc, told, index, *failure)?);
             }
         }
+    }
+    let mut lines = Lines::of(told.text);
+    for ((air, found), said) in airs.iter_mut().zip(&report.excesses).zip(told.airs) {
+        air.counts_above = excess_objects(alloc, told, said, found, &mut lines)?;
     }
     let object = ReportObject {
         format: FORMAT,
@@ -275,6 +331,12 @@ pub fn push_report_json<F: TableField>(
         } else {
             None
         },
+        counts_within: if has_at_most(told.airs) {
+            Some(report.within)
+        } else {
+            None
+        },
+        enforced: enforced_member(told, &report.enforced),
     };
     push_object(page, &object)
 }
@@ -310,13 +372,17 @@ pub fn push_bits_json(
     push_object(page, &object)
 }
 
+/// The AIRs; what is enforced of each is told if it is here.
 fn air_objects<'a>(
     alloc: Global,
     told: Told<'a>,
     airs: &'a [AirReport],
+    enforced: &[EnforcedAir],
 ) -> Result<Vec<AirObject<'a>>, AllocError> {
     let mut objects = Vec::new(alloc);
     let mut lines = Lines::of(told.text);
+    let mut lookup_lines = Lines::of(told.text);
+    let is_told = is_enforcement_told(told);
     for (index, air) in airs.iter().enumerate() {
         objects.push(AirObject {
             name: str::from_utf8(air_name(told, index)).ok(),
@@ -327,9 +393,137 @@ fn air_objects<'a>(
             packed_degrees: air.packed.as_slice(),
             packed_lookups: air.packed_lookups.as_slice(),
             constraints: constraint_objects(alloc, told, index, &mut lines)?,
+            enforced: match (enforced.get(index), told.airs.get(index)) {
+                (Some(shown), Some(said)) if is_told => {
+                    Some(enforced_objects(alloc, said, shown, &mut lookup_lines)?)
+                }
+                _ => None,
+            },
+            counts_above: Vec::new(alloc),
         })?;
     }
     Ok(objects)
+}
+
+/// Whether all flags and weights are shown to be enforced, if it is told what constraints enforce.
+fn enforced_member(told: Told<'_>, enforced: &EnforcedAirs) -> Option<bool> {
+    if is_enforcement_told(told) {
+        Some(enforced.all)
+    } else {
+        None
+    }
+}
+
+/// What constraints enforce of each lookup of an AIR.
+fn enforced_objects(
+    alloc: Global,
+    said: &AirText,
+    shown: &EnforcedAir,
+    lines: &mut Lines<'_>,
+) -> Result<Vec<EnforcedObject>, AllocError> {
+    let mut objects = Vec::new(alloc);
+    let items = said.items.iter().filter(|item| is_lookup(&item.item));
+    for ((lookup, kept), item) in shown.lookups.iter().zip(&shown.weights).zip(items) {
+        let mut bounds = Vec::new(alloc);
+        for bound in &lookup.bounds {
+            bounds.push(match bound {
+                Some(bound) => Some(decimal(alloc, u128::from(*bound))?),
+                None => None,
+            })?;
+        }
+        objects.push(EnforcedObject {
+            text_line: lines.line_of(item.at),
+            flags: match &item.item {
+                ItemText::Exclusive(_) => Some(lookup.flags),
+                _ => None,
+            },
+            weight: if has_queries(&item.item) {
+                Some(*kept)
+            } else {
+                None
+            },
+            bounds,
+            missing: lookup.missing.map(missing_object),
+        })?;
+    }
+    Ok(objects)
+}
+
+fn missing_object(missing: Missing) -> MissingObject {
+    match missing {
+        Missing::Flag { flag, kind } => MissingObject {
+            flag: Some(flag),
+            rows: rows_of(kind),
+        },
+        Missing::Exclusive { kind } => MissingObject {
+            flag: None,
+            rows: rows_of(kind),
+        },
+    }
+}
+
+/// Rows of a kind, in a word.
+fn rows_of(kind: RowKind) -> &'static str {
+    match (kind.is_first, kind.is_last) {
+        (true, true) => "only",
+        (true, false) => "first",
+        (false, true) => "last",
+        (false, false) => "between",
+    }
+}
+
+/// The counts of an AIR that are above what `at most` says, lookup by lookup.
+fn excess_objects<'a, F: TableField>(
+    alloc: Global,
+    told: Told<'a>,
+    said: &'a AirText,
+    found: &[Option<Excess<F>>],
+    lines: &mut Lines<'_>,
+) -> Result<Vec<ExcessObject<'a>>, AllocError> {
+    let mut objects = Vec::new(alloc);
+    let items = said.items.iter().filter(|item| is_lookup(&item.item));
+    for (lookup, (excess, item)) in found.iter().zip(items).enumerate() {
+        let Some(excess) = excess else {
+            continue;
+        };
+        let (mut at_most, mut text_line) = (None, 0);
+        if let Some(message) = message_at(&item.item, excess.message) {
+            text_line = lines.line_of(message.at);
+            if let Some(most) = message.at_most {
+                at_most = Some(decimal(alloc, u128::from(most))?);
+            }
+        }
+        objects.push(ExcessObject {
+            lookup,
+            message: excess.message,
+            row: excess.row,
+            count: signed(alloc, excess.count)?,
+            at_most,
+            file: trace_name(told, said),
+            file_line: (excess.row as u64).saturating_add(2),
+            text_line,
+        })?;
+    }
+    Ok(objects)
+}
+
+/// The file of the main trace of an AIR, if its name is UTF-8.
+fn trace_name<'a>(told: Told<'a>, said: &AirText) -> Option<&'a str> {
+    let name = trace_file(said, false)?;
+    str::from_utf8(bytes_of(told.text, name)).ok()
+}
+
+/// Whether `at most` is said of a message of some AIR.
+fn has_at_most(airs: &[&AirText]) -> bool {
+    airs.iter().any(|air| {
+        air.items.iter().any(|item| match &item.item {
+            ItemText::Message(message) => message.at_most.is_some(),
+            ItemText::Together(parts) | ItemText::Exclusive(parts) => {
+                parts.iter().any(|part| part.message.at_most.is_some())
+            }
+            _ => false,
+        })
+    })
 }
 
 /// The constraints of the AIR with this number, of none of which it is known where it fails.
@@ -359,12 +553,10 @@ fn failure_object<'a, F: TableField>(
     air: usize,
     failure: ConstraintFailure<F>,
 ) -> Result<FailureObject<'a>, AllocError> {
-    let mut file = None;
-    if let Some(said) = told.airs.get(air) {
-        if let Some(name) = trace_file(said, false) {
-            file = str::from_utf8(bytes_of(told.text, name)).ok();
-        }
-    }
+    let file = match told.airs.get(air) {
+        Some(said) => trace_name(told, said),
+        None => None,
+    };
     Ok(FailureObject {
         row: failure.row,
         value: signed(alloc, failure.value)?,
@@ -472,9 +664,7 @@ fn place_object<'a, F: TableField>(
     let location = place.location;
     let (mut file, mut text_line) = (None, 0);
     if let Some(air) = told.airs.get(location.instance) {
-        if let Some(name) = trace_file(air, false) {
-            file = str::from_utf8(bytes_of(told.text, name)).ok();
-        }
+        file = trace_name(told, air);
         if let Some(item) = lookup_at(air, location.lookup) {
             text_line = place_of(told.text, item.at).line;
         }

@@ -50,6 +50,15 @@ module _ (text : List ℕ) (sections : List Section) (whole : ℕ) where
   says_long room (a ∷ airs) (s ∷ ss) [] says = absurd says
   says_long room (a ∷ airs) (s ∷ ss) (x ∷ xs) says = ap suc (says_long x.room airs ss xs says.1)
 
+  -- something is said of each AIR
+  pub says_airs : (room : ℕ) (airs : List Air) (ss : List Shape) (xs : List Said) → SayOver text sections room airs ss xs → length airs ≡ length ss
+  says_airs room [] [] [] says = refl
+  says_airs room [] [] (x ∷ xs) says = absurd says
+  says_airs room [] (s ∷ ss) xs says = absurd says
+  says_airs room (a ∷ airs) [] xs says = absurd says
+  says_airs room (a ∷ airs) (s ∷ ss) [] says = absurd says
+  says_airs room (a ∷ airs) (s ∷ ss) (x ∷ xs) says = ap suc (says_airs x.room airs ss xs says.1)
+
 module _ {X : Type 0} (Is : Air → TablesOf → ℕ → Said → X → Type 0) (whole : ℕ) where
   -- with those of the AIRs that are left, those so far are those of all
   abbrev pub GoesOn : List Air → List TablesOf → ℕ → ℕ → List X → Type 0

@@ -3,6 +3,8 @@ pub mod BitLaws
 pub mod CauseLaws
 pub mod ConstraintLaws
 pub mod CutLaws
+pub mod EnforcedLaws
+pub mod ExcessLaws
 pub mod FittingLaws
 pub mod JudgeLaws
 pub mod OrderLaws

@@ -13,25 +13,33 @@ use Rattle.language_meaning.specs.Lookups.{Said}
 use Rattle.language_meaning.specs.Shapes.{column_names}
 use Rattle.language_meaning.specs.Tables.{TablesOf}
 use Rattle.check_judge.specs.Airs.{over_traced}
-use Rattle.check_judge.specs.Said.{AreEach, SaysOver, traces_in}
+use Rattle.lookup.specs.Lookups.{lookups_of}
+use Rattle.lookup_model.specs.declared.types.Lookup.{Lookup}
+use Rattle.check_judge.specs.Counts.{counts_in}
+use Rattle.check_judge.specs.Said.{AreEach, AreLookupsOf, SaysOver, traces_in}
+use Rattle.check_judge.specs.declared.counts.SaidCount.{SaidCount}
 use Rattle.check_judge.specs.declared.airs.AirOver.{AirOver}
 use Rattle.check_judge.specs.declared.constraints.ConstraintFailure.{ConstraintFailure}
 
--- the traces of an AIR, and its constraints over a field
+-- the traces of an AIR, its constraints and lookups over a field, and what is said of the counts of each lookup
 pub record Constrained (F : Type 0) : Type 0 where
   pub traces : AirTraces F
   pub constraints : List (SymbolicExpression F)
+  pub lookups : List (Lookup F)
+  pub counts : List (List SaidCount)
 
 -- those of an AIR, as the program holds them
 abbrev pub over_constrained : {F : Type 0} → AirOver F → Constrained F
-over_constrained a = record { traces = (over_traced a).traces; constraints = a.constraints.items }
+over_constrained a = record { traces = (over_traced a).traces; constraints = a.constraints.items; lookups = lookups_of a.lookups; counts = map (λ c. c.items) a.counts.items }
 
 module _ {F : Type 0} (element : ℕ → F) (text : List ℕ) (sections : List Section) where
-  -- The constraints and the traces of an AIR are those that its items and its tables say.
+  -- The constraints, the lookups and the traces of an AIR are those that its items and its tables say.
   pub record IsConstrained (a : Air) (tables : TablesOf) (room : ℕ) (said : Said) (x : Constrained F) : Type 0 where
     pub items : SaysOver text sections a tables.main.0 (column_names tables.preprocessed) room said
     pub traces : x.traces ≡ traces_in element tables said
     pub constraints : map tree_of x.constraints ≡ constraints_in element said.constraints
+    pub lookups : AreLookupsOf element text said x.lookups
+    pub counts : x.counts ≡ counts_in a.items
 
   -- so it is of each AIR, with tables for each
   abbrev pub AreConstrained : ℕ → List Air → List TablesOf → List (Constrained F) → Type 0

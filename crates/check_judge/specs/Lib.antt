@@ -2,8 +2,12 @@ pub mod Airs
 pub mod Bits
 pub mod Causes
 pub mod Constraints
+pub mod Counts
+pub mod Enforced
+pub mod Excesses
 pub mod Found
 pub mod Refusals
 pub mod Said
 pub mod Sharing
+pub mod Shown
 pub mod internal

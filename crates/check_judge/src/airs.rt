@@ -13,6 +13,7 @@ ghost use Rattle.language_meaning.specs.Lookups.{Said, said_of};
 ghost use Rattle.language.specs.Batches.{air_of, section_of};
 ghost use Rattle.language.specs.Tables.{table_of};
 
+use crate::counts::{SaidCount, counts_of};
 use crate::fault::JudgeFault;
 use air_expressions::SymbolicExpression;
 use field::Field;
@@ -30,7 +31,8 @@ use std::alloc::{AllocError, Global};
 /// How many nodes all expressions of a text may have together.
 pub const MAX_NODES: usize = 1_048_576;
 
-/// An AIR over a field: its lookups, its traces and its constraints.
+/// An AIR over a field: its lookups, its traces and its constraints, and for each lookup what the text says of
+/// the count of each message.
 #[derive(Drop)]
 pub struct AirOver<F> {
     pub lookups: Lookups<F>,
@@ -38,6 +40,7 @@ pub struct AirOver<F> {
     pub preprocessed: Option<RowMajorMatrix<F>>,
     pub public_values: Vec<F>,
     pub constraints: Vec<SymbolicExpression<F>>,
+    pub counts: Vec<Vec<SaidCount>>,
 }
 
 /// What the items of each AIR of a batch say, over the columns of these shapes, one for each AIR.
@@ -162,6 +165,7 @@ fn air_over<F: Field>(
     let public_values = elements_of(alloc, &named.public_values)?;
     let main = matrix_of(alloc, main)?;
     let constraints = constraints_over(alloc, &named.constraints)?;
+    let counts = counts_of(alloc, &air.items)?;
     match fit_fault(&main, fixed.as_ref(), &public_values, lookups.as_slice()) {
         Some(fault) => Err(JudgeFault::Fit { air: index, fault }),
         None => Ok((
@@ -171,6 +175,7 @@ fn air_over<F: Field>(
                 preprocessed: fixed,
                 public_values,
                 constraints,
+                counts,
             },
             named.room,
         )),

@@ -6,9 +6,10 @@ ghost use Rattle.field.specs.Ring.{of_nat};
 ghost use Rattle.lookup_debug.specs.Contributions.{Traced, traced_of};
 ghost use Rattle.language_meaning.specs.Tables.{tables_of};
 ghost use Rattle.check_judge.specs.Causes.{HasNoPlan, IsJudgeRefusal};
-ghost use Rattle.check_judge.specs.Constraints.{AllHold, AreChecked, AreConstrained, Constrained, over_constrained};
+ghost use Rattle.check_judge.specs.Constraints.{AreConstrained, Constrained, over_constrained};
 ghost use Rattle.check_judge.specs.Found.{IsFound, IsPlanOf, sized_of};
 ghost use Rattle.check_judge.specs.Said.{AreSaid, airs_of};
+ghost use Rattle.check_judge.specs.Shown.{AreConstraintsFound};
 ghost use Rattle.check_judge.specs.Airs.{AreFittingAirs, over_traced};
 ghost use Rattle.check_judge.specs.internal.Sizes.{sized_lookups_of};
 ghost use Rattle.language_meaning.specs.Buses.{distinct_buses};
@@ -16,15 +17,18 @@ ghost use Rattle.language.specs.Batches.{section_of};
 
 use crate::airs::{AirOver, airs_over};
 use crate::constraints::{all_hold, failures_of};
+use crate::enforced::{EnforcedAirs, enforced_over};
+use crate::excess::{are_all_within, excesses_of};
 use crate::fault::JudgeFault;
 use crate::plan::{plan_over, report_plan};
 use crate::report::Report;
 use crate::sizes::SizedAir;
 use batch::{BatchPlan, BatchTrace};
 use field::{ExtensionField, Field, Over};
+use field_list::TableField;
 use language::BatchText;
 use language_meaning::{AirTables, check_buses};
-use lookup::debug_util::{BusGroup, LookupDebugInstance, SignedField, bus_table};
+use lookup::debug_util::{BusGroup, LookupDebugInstance, bus_table};
 use std::alloc::{AllocError, Global};
 
 /// The AIRs of a batch over its tables, and their plan.
@@ -38,7 +42,8 @@ pub struct PlannedAirs<F: Field> {
 /// most `limit` unbalanced tuples of each bus and as many places of each tuple, and with columns
 /// packed within `max_degree`.
 ///
-/// Its lookups and constraints are those of `lookups_of`, over the field; its traces are the tables.
+/// Its lookups and constraints are those of `lookups_of`, over the field; its traces are the tables. What the constraints
+/// enforce is shown for all traces of the heights of these.
 ///
 /// Refuses, in this order: a bus that is declared twice; another number of tables than of AIRs; then AIR by
 /// AIR a table without columns or rows or with a row that is not whole, the preprocessed one first, the
@@ -46,7 +51,7 @@ pub struct PlannedAirs<F: Field> {
 /// two tables have different numbers of rows; then what `BatchPlan::new`,
 /// `BatchPlan::soundness_count` and `BatchPlan::soundness_of_heights` refuse; and last, AIR by AIR, lookups
 /// that cannot be packed or whose degree does not fit 64 bits. Also fails when out of memory.
-pub fn judge<F: SignedField, EF: ExtensionField<F>>(
+pub fn judge<F: TableField, EF: ExtensionField<F>>(
     alloc: Global,
     text: &[u8],
     batch: &BatchText,
@@ -67,7 +72,7 @@ pub fn judge<F: SignedField, EF: ExtensionField<F>>(
         IfOk result (λ report. (airs : List (Constrained (F)))
         × AreConstrained (of_nat F.ring) text.now sections 1048576 (airs_of sections)
         (map tables_of tables.now) airs
-        × AreChecked F.ring airs report.failures.items × (IsTrue report.hold ↔ AllHold F.ring airs)) }
+        × AreConstraintsFound F.ring F.eq F.CHARACTERISTIC F.number airs report) }
 {
     let PlannedAirs { airs, plan } = planned_airs(alloc, text, batch, tables)?;
     let traces = traces_of(alloc, &airs)?;
@@ -79,6 +84,9 @@ pub fn judge<F: SignedField, EF: ExtensionField<F>>(
     let plan = report_plan::<F, EF>(alloc, &sizes, &plan, max_degree)?;
     let failures = failures_of(alloc, &airs)?;
     let hold = all_hold(&failures);
+    let enforced = EnforcedAirs::of_airs(enforced_over(alloc, &airs)?);
+    let excesses = excesses_of(alloc, &airs)?;
+    let within = are_all_within(&excesses);
     Ok(Report {
         plan,
         counts,
@@ -86,6 +94,9 @@ pub fn judge<F: SignedField, EF: ExtensionField<F>>(
         balanced,
         failures,
         hold,
+        enforced,
+        excesses,
+        within,
     })
 }
 

@@ -3,6 +3,8 @@ ghost use Rattle.std.specs.Prelude.{◌≡◌, ◌&&◌};
 
 use crate::bits::Deceiving;
 use crate::constraints::ConstraintFailure;
+use crate::enforced::EnforcedAirs;
+use crate::excess::Excess;
 use batch::{HeightSoundness, SoundnessCount};
 use lookup::debug_util::BusGroup;
 
@@ -39,6 +41,14 @@ pub struct PlanReport {
     pub heights: HeightSoundness,
 }
 
+/// What is found of a batch before any trace is seen, with what its constraints are shown to enforce.
+#[derive(Debug, Drop)]
+pub struct PlanJudgement {
+    pub report: PlanReport,
+    /// What the constraints are shown to enforce, whatever the traces of these heights are.
+    pub enforced: EnforcedAirs,
+}
+
 impl PlanReport {
     /// At how few challenges a batch that does not balance is accepted, whatever its traces hold.
     pub fn for_all_traces(&self) -> Deceiving
@@ -67,14 +77,20 @@ pub struct Report<F> {
     pub failures: Vec<Option<ConstraintFailure<F>>>,
     /// Whether all constraints are zero on all rows.
     pub hold: bool,
+    /// What the constraints are shown to enforce, whatever the traces of these heights are.
+    pub enforced: EnforcedAirs,
+    /// For each AIR and each lookup, in their order, a count that is above what `at most` says, if one is.
+    pub excesses: Vec<Vec<Option<Excess<F>>>>,
+    /// Whether no count is above what `at most` says.
+    pub within: bool,
 }
 
 impl<F> Report<F> {
-    /// Whether all messages balance and all constraints hold.
+    /// Whether all messages balance, all constraints hold, and no count is above what `at most` says.
     pub fn is_good(&self) -> bool
-        ensures { result ≡ (self.now.balanced && self.now.hold) }
+        ensures { result ≡ (self.now.balanced && (self.now.hold && self.now.within)) }
     {
-        self.balanced && self.hold
+        self.balanced && self.hold && self.within
     }
 
     /// At how few challenges the batch is accepted over these traces, if it does not balance.

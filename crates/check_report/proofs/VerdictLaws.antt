@@ -1,7 +1,9 @@
--- The last line of a report.
-use Rattle.std.proofs.Common.{◌≡◌, ◌++◌, ℕ, List, Result, Ok, Err, OnOk}
+-- The last lines of a report.
+use Rattle.std.proofs.Common.{◌≡◌, ◌∙◌, ◌++◌, ℕ, List, Result, Ok, Err, OnOk, ap}
+use Rattle.std.proofs.lemmas.List.{append_assoc}
 
--- a line follows what was there
-pub line_told : {E : Type 0} (answer : Result (Unit {0}) E) (front after line : List ℕ) → OnOk answer (after ≡ front ++ line) → OnOk answer ((x : List ℕ) × (after ≡ x ++ line))
-line_told (Ok u) front after line told = (front, told)
-line_told (Err e) front after line told = tt
+-- two lines follow what was there
+pub lines_told : {E : Type 0} (answer : Result (Unit {0}) E) (front before after line last : List ℕ) → before ≡ front ++ line → OnOk answer (after ≡ before ++ last)
+    → OnOk answer ((x : List ℕ) × (after ≡ x ++ (line ++ last)))
+lines_told (Ok u) front before after line last told then = (front, then ∙ (ap (λ xs. xs ++ last) told ∙ append_assoc front line last))
+lines_told (Err e) front before after line last told then = tt

@@ -1,11 +1,8 @@
 -- Lines of answers and refusals.
-use Rattle.std.specs.Prelude.{◌++◌, ◌==◌, ◌||◌, ℕ, Bool, true, false, List, codes, map, nat_lt, if◌then◌else◌}
+use Rattle.std.specs.Prelude.{◌++◌, ℕ, Bool, true, false, List, [], codes, map}
+use Rattle.check_page.specs.Shown.{shown_byte}
 use Rattle.check_report.specs.declared.refusal.RunRefusal.{RunRefusal}
 use Rattle.check_report.specs.declared.refusal.RunRefusal.TheVariants.{Memory, Told}
-
--- a byte of a file or of its name as it is shown: one below 32, and 127, as a question mark
-abbrev pub shown_byte : ℕ → ℕ
-shown_byte byte = if (nat_lt byte 32 || (byte == 127)) then 63 else byte
 
 -- the line that tells what is wrong with a whole file
 abbrev pub file_line : List ℕ → List ℕ → List ℕ
@@ -16,9 +13,20 @@ abbrev pub refusal_text : RunRefusal → List ℕ
 refusal_text Memory = codes "error: out of memory\n"
 refusal_text (Told lines) = lines.items
 
--- the last line of a report: whether all messages balance; and that a constraint fails, if one does
-abbrev pub verdict_line : Bool → Bool → List ℕ
-verdict_line true true = codes "\nBALANCED: every tuple of every bus and local lookup cancels\n"
-verdict_line false true = codes "\nNOT BALANCED\n"
-verdict_line true false = codes "\nNOT SATISFIED: all messages balance, but a constraint fails\n"
-verdict_line false false = codes "\nNOT BALANCED, and a constraint fails\n"
+-- The last line of a report: whether all messages balance; and that a constraint fails, or that a count is above what
+-- `at most` says, if one is.
+abbrev pub verdict_line : Bool → Bool → Bool → List ℕ
+verdict_line true true true = codes "\nBALANCED: every tuple of every bus and local lookup cancels\n"
+verdict_line true false true = codes "\nNOT SATISFIED: all messages balance, but a constraint fails\n"
+verdict_line true true false = codes "\nNOT SATISFIED: all messages balance, but a count is above its `at most`\n"
+verdict_line true false false = codes "\nNOT SATISFIED: all messages balance, but a constraint fails and a count is above its `at most`\n"
+verdict_line false true true = codes "\nNOT BALANCED\n"
+verdict_line false false true = codes "\nNOT BALANCED, and a constraint fails\n"
+verdict_line false true false = codes "\nNOT BALANCED, and a count is above its `at most`\n"
+verdict_line false false false = codes "\nNOT BALANCED, a constraint fails, and a count is above its `at most`\n"
+
+-- the line after it: whether all flags and weights are shown to be enforced, if that is asked for
+abbrev pub enforced_line : Bool → Bool → List ℕ
+enforced_line false all = []
+enforced_line true true = codes "\nENFORCED: all flags and weights are shown to be enforced\n"
+enforced_line true false = codes "\nTRUSTED: not all flags and weights are shown to be enforced\n"

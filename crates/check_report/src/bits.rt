@@ -1,6 +1,6 @@
 //! The bits that are left, as text.
-use crate::page::{Page, head, number_cell, word_cell};
 use check_judge::Deceiving;
+use check_page::{Page, head, number_cell, word_cell};
 use check_words::BitsRequest;
 use field_list::FieldEntry;
 use std::alloc::AllocError;

@@ -1,8 +1,6 @@
 //! The packed columns, each with the lookups that share it.
-use crate::page::{Page, shown_cell};
-use crate::told::{Told, push_lookup};
-use crate::words::{Lines, is_lookup};
 use check_judge::AirReport;
+use check_page::{Lines, Page, Told, is_lookup, push_lookup, shown_cell};
 use language::AirText;
 use language_meaning::bytes_of;
 use std::alloc::{AllocError, Global};

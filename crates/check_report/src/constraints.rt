@@ -1,26 +1,28 @@
-//! The constraints of AIRs: how many there are, and where they fail.
-use crate::page::{Page, head, number_cell, shown_cell};
-use crate::told::{Told, air_name, push_lookup};
-use crate::unbalanced::magnitude;
-use crate::words::{constraint_count, is_constraint, trace_file};
-use check_judge::{ConstraintFailure, Report};
+//! The constraints of AIRs: whether they hold, where they fail, and what they enforce.
+use crate::enforced::{is_enforcement_told, push_enforced};
+use crate::unbalanced::push_signed;
+use check_judge::{ConstraintFailure, EnforcedAirs, PlanReport, Report};
+use check_page::{
+    Lines, Page, Told, air_name, constraint_count, is_constraint, push_lookup, trace_file,
+};
 use field_list::TableField;
-use language::place_of;
 use language_meaning::bytes_of;
 use std::alloc::AllocError;
 
-/// Appends that all constraints hold; or for each AIR with one that does not, the first place at which it
-/// fails. Where there are no constraints, appends nothing.
+/// Appends that all constraints hold, or for each AIR with one that does not the first place at which it
+/// fails; and what they enforce. Where there are no constraints, appends the last alone, if it is asked for.
 pub(crate) fn push_constraints<F: TableField>(
     page: &mut Page,
     told: Told<'_>,
     report: &Report<F>,
 ) -> Result<(), AllocError> {
-    let count = constraint_count(told.airs);
-    if count == 0 {
+    if !is_enforcement_told(told) {
         return Ok(());
     }
-    if report.hold {
+    let count = constraint_count(told.airs);
+    if count == 0 {
+        page.word("\nCONSTRAINTS\n  there are none\n")?;
+    } else if report.hold {
         page.word("\nCONSTRAINTS\n  ")?;
         page.grouped(count as u128)?;
         page.word(if count == 1 {
@@ -28,12 +30,24 @@ pub(crate) fn push_constraints<F: TableField>(
         } else {
             " constraints hold"
         })?;
-        return page.word(" on all rows of the traces\n");
+        page.word(" on all rows of the traces\n")?;
+    } else {
+        push_failures(page, told, report)?;
     }
+    push_enforced(page, told, &report.plan, &report.enforced)
+}
+
+/// Appends for each AIR with a constraint that fails the first place at which it does.
+fn push_failures<F: TableField>(
+    page: &mut Page,
+    told: Told<'_>,
+    report: &Report<F>,
+) -> Result<(), AllocError> {
     page.word("\nCONSTRAINTS (the first row of an AIR on which one is not zero)\n")?;
+    let mut lines = Lines::of(told.text);
     for (air, failure) in report.failures.iter().enumerate() {
         if let Some(failure) = failure {
-            push_failure(page, told, air, *failure)?;
+            push_failure(page, told, air, *failure, &mut lines)?;
         }
     }
     Ok(())
@@ -46,14 +60,12 @@ fn push_failure<F: TableField>(
     told: Told<'_>,
     air: usize,
     failure: ConstraintFailure<F>,
+    lines: &mut Lines<'_>,
 ) -> Result<(), AllocError> {
     page.word("  ")?;
     page.shown(air_name(told, air))?;
     page.word(": ")?;
-    if failure.value.is_negative() {
-        page.word("-")?;
-    }
-    page.grouped(magnitude(failure.value))?;
+    push_signed(page, failure.value)?;
     page.word(" at ")?;
     let Some(said) = told.airs.get(air) else {
         return page.word("?\n");
@@ -69,28 +81,25 @@ fn push_failure<F: TableField>(
     let mut constraints = said.items.iter().filter(|item| is_constraint(&item.item));
     if let Some(item) = constraints.nth(failure.constraint) {
         page.word(", ")?;
-        push_lookup(page, &item.item, place_of(told.text, item.at).line)?;
+        push_lookup(page, &item.item, lines.line_of(item.at))?;
     }
     page.word("\n")
 }
 
-/// Appends how many constraints each AIR has that has any. Where there are none, appends nothing.
-pub(crate) fn push_constraint_counts(page: &mut Page, told: Told<'_>) -> Result<(), AllocError> {
-    if constraint_count(told.airs) == 0 {
+/// Appends what constraints enforce, before any trace is seen, if there are any or it is asked for.
+pub(crate) fn push_planned_constraints(
+    page: &mut Page,
+    told: Told<'_>,
+    plan: &PlanReport,
+    enforced: &EnforcedAirs,
+) -> Result<(), AllocError> {
+    if !is_enforcement_told(told) {
         return Ok(());
     }
-    let alloc = page.alloc();
-    page.word("\nCONSTRAINTS\n")?;
-    let mut lines = Vec::new(alloc);
-    lines.push(head(alloc, &["air", "constraints"])?)?;
-    for (index, air) in told.airs.iter().enumerate() {
-        let count = constraint_count(&[air]);
-        if count > 0 {
-            let mut cells = Vec::new(alloc);
-            cells.push(shown_cell(alloc, air_name(told, index))?)?;
-            cells.push(number_cell(alloc, count as u128)?)?;
-            lines.push(cells)?;
-        }
-    }
-    page.table(&lines, &[false, true])
+    page.word(if constraint_count(told.airs) == 0 {
+        "\nCONSTRAINTS\n  there are none\n"
+    } else {
+        "\nCONSTRAINTS\n"
+    })?;
+    push_enforced(page, told, plan, enforced)
 }

@@ -2,7 +2,7 @@
 use crate::given::Given;
 use crate::names::name_at;
 use crate::near::near_name;
-use crate::words::bus_named;
+use check_page::bus_named;
 use language::{BatchText, Fault, Kind, TextFault, Why, place_of, tokens};
 use language_meaning::{NameRefusal, NameWhy};
 use std::alloc::{AllocError, Global};

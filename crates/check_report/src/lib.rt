@@ -8,25 +8,21 @@
 mod bits;
 mod columns;
 mod constraints;
+mod enforced;
+mod excess;
 mod given;
 mod hint;
 mod mark;
 mod names;
 mod near;
-mod page;
 mod refusal;
 mod sections;
 mod show;
-mod told;
 mod unbalanced;
-mod words;
 
 pub use bits::{push_bits_table, push_target};
+pub use enforced::{is_enforcement_told, push_enforced_line};
 pub use given::Given;
-pub use page::Page;
 pub use refusal::RunRefusal;
 pub use sections::{push_airs, push_plan, push_report};
 pub use show::push_lookups;
-pub use told::{Told, air_name};
-pub use unbalanced::magnitude;
-pub use words::{Lines, is_constraint, lookup_at, trace_file};

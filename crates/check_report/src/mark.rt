@@ -3,7 +3,7 @@ ghost use Rattle.std.specs.Prelude.{◌≤◌, length};
 
 use crate::hint::Hint;
 use crate::names::is_name;
-use crate::page::Page;
+use check_page::Page;
 use language::{Why, place_of};
 use language_meaning::NameWhy;
 use std::alloc::AllocError;

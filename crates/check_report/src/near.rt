@@ -1,7 +1,7 @@
 //! Names that are off by a letter from one that is there.
 use crate::given::Given;
 use crate::names::name_at;
-use crate::words::air_at;
+use check_page::air_at;
 use language::{BatchText, ItemText, SectionText};
 use language_meaning::{NameWhy, TableFault, bytes_of, read_shapes};
 use std::alloc::{AllocError, Global};

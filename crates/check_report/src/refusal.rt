@@ -6,10 +6,9 @@ ghost use Rattle.check_report.specs.declared.refusal.RunRefusal.TheVariants.{Mem
 use crate::given::Given;
 use crate::hint::{Hint, hint_of, hint_of_text};
 use crate::mark::{name_text, push_mark, push_place, push_why};
-use crate::page::Page;
-use crate::words::{air_at, lookup_at, trace_file};
 use batch::BatchError;
 use check_judge::JudgeFault;
+use check_page::{Page, air_at, lookup_at, trace_file};
 use field_list::FieldEntry;
 use language::{BatchText, Fault, Span, place_of};
 use language_meaning::{ElementWhy, TableRefusal, TableWhy, bytes_of, content_of, path_beside};

@@ -1,15 +1,18 @@
 //! The sections of a report, as text.
 ghost use Rattle.std.specs.Prelude.{◌≡◌, ◌++◌, ℕ, List, OnOk};
-ghost use Rattle.check_report.specs.Told.{verdict_line};
+ghost use Rattle.check_report.specs.Told.{enforced_line, verdict_line};
 
 use crate::bits::push_bits;
 use crate::columns::push_columns;
-use crate::constraints::{push_constraint_counts, push_constraints};
-use crate::page::{Page, head, number_cell, numbers_cell, shown_cell, word_cell};
-use crate::told::{Told, air_name, group_cell};
+use crate::constraints::{push_constraints, push_planned_constraints};
+use crate::enforced::{push_enforced_line, push_premise};
+use crate::excess::push_excesses;
 use crate::unbalanced::push_unbalanced;
-use crate::words::bus_named;
-use check_judge::{AirReport, PlanReport, Report};
+use check_judge::{AirReport, EnforcedAirs, PlanJudgement, PlanReport, Report};
+use check_page::{
+    Page, Told, air_name, bus_named, group_cell, head, number_cell, numbers_cell, shown_cell,
+    word_cell,
+};
 use field_list::TableField;
 use language_meaning::bytes_of;
 use lookup::debug_util::{BusGroup, GroupName};
@@ -22,41 +25,60 @@ pub fn push_report<F: TableField>(
     report: &Report<F>,
 ) -> Result<(), AllocError>
     ensures { OnOk result ((front : List ℕ)
-        × (page.new.bytes.items ≡ front ++ verdict_line report.now.balanced report.now.hold)) }
+        × (page.new.bytes.items ≡ front ++ (verdict_line report.now.balanced report.now.hold report.now.within
+        ++ enforced_line told.entry.enforced report.now.enforced.all))) }
 {
     push_sizes(page, told, &report.plan.airs)?;
     push_heights(page, &report.plan)?;
+    push_excesses(page, told, report)?;
     push_buses(page, told, &report.groups)?;
     push_unbalanced(page, told, &report.groups)?;
     push_soundness(page, told, report)?;
     push_constraints(page, told, report)?;
-    push_verdict(page, report.balanced, report.hold)
+    push_verdict(page, report.balanced, report.hold, report.within)?;
+    push_enforced_line(page, told.enforced, report.enforced.all)
 }
 
-/// Appends whether all messages balance; and that a constraint fails, if one does.
-fn push_verdict(page: &mut Page, balanced: bool, hold: bool) -> Result<(), AllocError>
+/// Appends whether all messages balance; and that a constraint fails, or that a count is above what `at most` says, if
+/// one is.
+fn push_verdict(page: &mut Page, balanced: bool, hold: bool, within: bool) -> Result<(), AllocError>
     ensures { OnOk result (page.new.bytes.items
-        ≡ page.old.bytes.items ++ verdict_line balanced hold) }
+        ≡ page.old.bytes.items ++ verdict_line balanced hold within) }
 {
-    match (balanced, hold) {
-        (true, true) => {
+    match (balanced, hold, within) {
+        (true, true, true) => {
             page.word("\nBALANCED: every tuple of every bus and local lookup cancels\n")
         }
-        (false, true) => page.word("\nNOT BALANCED\n"),
-        (true, false) => page.word(
+        (true, false, true) => page.word(
             "\nNOT SATISFIED: all messages balance, but a constraint fails\n",
         ),
-        (false, false) => page.word("\nNOT BALANCED, and a constraint fails\n"),
+        (true, true, false) => page.word(
+            "\nNOT SATISFIED: all messages balance, but a count is above its `at most`\n",
+        ),
+        (true, false, false) => page.word(
+            "\nNOT SATISFIED: all messages balance, but a constraint fails and a count is above its `at most`\n",
+        ),
+        (false, true, true) => page.word("\nNOT BALANCED\n"),
+        (false, false, true) => page.word("\nNOT BALANCED, and a constraint fails\n"),
+        (false, true, false) => page.word("\nNOT BALANCED, and a count is above its `at most`\n"),
+        (false, false, false) => page.word(
+            "\nNOT BALANCED, a constraint fails, and a count is above its `at most`\n",
+        ),
     }
 }
 
 /// Appends a report of a batch whose traces are not there yet.
-pub fn push_plan(page: &mut Page, told: Told<'_>, report: &PlanReport) -> Result<(), AllocError> {
+pub fn push_plan(
+    page: &mut Page,
+    told: Told<'_>,
+    judged: &PlanJudgement,
+) -> Result<(), AllocError> {
+    let PlanJudgement { report, enforced } = judged;
     push_sizes(page, told, &report.airs)?;
     push_heights(page, report)?;
     page.word("\nSOUNDNESS\n")?;
-    push_all_traces(page, told, report)?;
-    push_constraint_counts(page, told)
+    push_all_traces(page, told, report, enforced)?;
+    push_planned_constraints(page, told, report, enforced)
 }
 
 /// Appends a line for each AIR, and one for each packed column.
@@ -178,11 +200,17 @@ fn push_soundness<F>(
         page.word(" alphas at which any witness is accepted\n")?;
         push_bits(page, told.field, deceiving)?;
     }
-    push_all_traces(page, told, &report.plan)
+    push_all_traces(page, told, &report.plan, &report.enforced)
 }
 
-/// Appends how many challenges may deceive, whatever the traces are.
-fn push_all_traces(page: &mut Page, told: Told<'_>, report: &PlanReport) -> Result<(), AllocError> {
+/// Appends how many challenges may deceive, whatever the traces are; and for which traces that holds, if it is told what
+/// constraints enforce.
+fn push_all_traces(
+    page: &mut Page,
+    told: Told<'_>,
+    report: &PlanReport,
+    enforced: &EnforcedAirs,
+) -> Result<(), AllocError> {
     page.word("  whatever traces of these heights a prover picks: at most ")?;
     page.grouped(report.heights.most_messages)?;
     page.word(" messages\n")?;
@@ -195,5 +223,5 @@ fn push_all_traces(page: &mut Page, told: Told<'_>, report: &PlanReport) -> Resu
         page.word(" alphas\n")?;
         push_bits(page, told.field, deceiving)?;
     }
-    Ok(())
+    push_premise(page, told, enforced)
 }

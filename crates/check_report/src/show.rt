@@ -1,8 +1,9 @@
 //! Lookups as they are understood, in the words of the language.
 use crate::names::is_name;
-use crate::page::{Page, head, number_cell, numbers_cell, shown_cell, word_cell};
-use crate::words::{Lines, public_name};
 use check_judge::airs_of;
+use check_page::{
+    Lines, Page, head, number_cell, numbers_cell, public_name, shown_cell, word_cell,
+};
 use language::{AirText, BatchText};
 use language_meaning::{AirShape, NamedAir, NamedLookup, NamedPart, Value, bytes_of};
 use std::alloc::AllocError;

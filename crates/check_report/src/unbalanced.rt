@@ -1,7 +1,8 @@
 //! The tuples that do not balance, with the names and lines of their author.
-use crate::page::{Page, characters};
-use crate::told::{Told, group_cell, push_lookup};
-use crate::words::{bus_named, lookup_at, trace_file};
+use check_judge::magnitude;
+use check_page::{
+    Page, Told, bus_named, characters, group_cell, lookup_at, push_lookup, trace_file,
+};
 use field_list::TableField;
 use language::{Span, place_of};
 use language_meaning::bytes_of;
@@ -148,15 +149,12 @@ fn field_of(told: Told<'_>, group: &GroupName, index: usize) -> Option<Span> {
     }
 }
 
-/// An element without its sign.
-pub fn magnitude<F: TableField>(element: F) -> u128 {
-    let number = element.as_number();
-    let size = if element.is_negative() {
-        F::modulus().saturating_sub(number)
-    } else {
-        number
-    };
-    u128::from(size)
+/// Appends an element as a whole number, with a sign where it is negative.
+pub(crate) fn push_signed<F: TableField>(page: &mut Page, element: F) -> Result<(), AllocError> {
+    if element.is_negative() {
+        page.word("-")?;
+    }
+    page.grouped(magnitude(element))
 }
 
 /// Appends a place: the count, the line of the table, and the line of the message.
@@ -167,10 +165,7 @@ fn push_place<F: TableField>(
     count: F,
 ) -> Result<(), AllocError> {
     let mut number = Page::new(page.alloc());
-    if count.is_negative() {
-        number.word("-")?;
-    }
-    number.grouped(magnitude(count))?;
+    push_signed(&mut number, count)?;
     page.blanks(10usize.saturating_sub(characters(&number.bytes)))?;
     page.bytes.extend_from_slice(&number.bytes)?;
     page.word(" at ")?;

@@ -80,8 +80,8 @@ module _ {F K : Type 0} (fields : Fields F K) (text : List ℕ) (files : List Fi
 
   -- why a task is refused; of `accept` this says nothing, since what it refuses is left to tests
   abbrev pub IsTaskRefused : Task → Type 0
-  IsTaskRefused (Check limit degree json) = IsCheckRefused degree
-  IsTaskRefused (Plan degree json target) = IsPlanRefused degree
+  IsTaskRefused (Check limit degree json enforced) = IsCheckRefused degree
+  IsTaskRefused (Plan degree json target enforced) = IsPlanRefused degree
   IsTaskRefused (Pack degree json) = IsPlanRefused degree
   IsTaskRefused (Show json) = IsShowRefused json
   IsTaskRefused (Witness words out) = IsWitnessRefused words

@@ -1,5 +1,5 @@
 -- What a run answers, writes and ends with.
-use Rattle.std.specs.Prelude.{◌≡◌, ◌⊎◌, ◌↔◌, ◌&&◌, ◌++◌, ◌-◌, ◌*◌, ℕ, Bool, true, false, IsTrue, List, Option, None, Some, Result, Ok, MatchResult, codes, map, max}
+use Rattle.std.specs.Prelude.{◌≡◌, ◌⊎◌, ◌↔◌, ◌&&◌, ◌||◌, ◌++◌, ◌-◌, ◌*◌, ℕ, All, Bool, true, false, not, IsTrue, List, Option, None, Some, Result, Ok, MatchResult, codes, map, max}
 use Rattle.std.specs.List.{AllZip}
 use Rattle.field.specs.Ring.{of_nat}
 use Rattle.field_list.specs.Offers.{HoldsOf, Offers, challenges_in}
@@ -32,10 +32,14 @@ use Rattle.batch.specs.Traces.{view_of}
 use Rattle.batch.specs.declared.trace.BatchTrace.{BatchTrace}
 use Rattle.language_witness.specs.Lines.{IsTextOf, witness_lines}
 use Rattle.check_judge.specs.Bits.{MeetsTarget, alphas_of}
-use Rattle.check_judge.specs.Constraints.{AllHold, AreChecked, AreConstrained, Constrained}
+use Rattle.check_judge.specs.Constraints.{AllHold, AreConstrained, Constrained}
+use Rattle.check_judge.specs.Enforced.{AreAsserted, AreEnforcedAirs, Asserted, IsAllEnforced}
+use Rattle.check_judge.specs.Excesses.{AllStayWithin}
+use Rattle.check_judge.specs.Shown.{AreConstraintsFound}
+use Rattle.check_judge.specs.declared.enforced.EnforcedAirs.{EnforcedAirs}
 use Rattle.check_judge.specs.Found.{IsFound, IsPlanFound, IsPlanOf, sized_of, sized_over}
 use Rattle.check_judge.specs.Said.{AreLookupsOf, AreSaid, SayOver, airs_of}
-use Rattle.check_report.specs.Told.{refusal_text, verdict_line}
+use Rattle.check_report.specs.Told.{enforced_line, refusal_text, verdict_line}
 use Rattle.program_ending.specs.Endings.{EndsAnswered, AnswerParts}
 use Rattle.program_ending.specs.Written.{AppendsFront}
 use Rattle.check_run.specs.declared.answer.Answer.{Answer}
@@ -45,7 +49,7 @@ use Rattle.check_judge.specs.declared.report.Report.{Report}
 
 -- what tells whether a witness is accepted: if it is not, why
 abbrev pub IsAcceptanceTold : Bool → List ℕ → Type 0
-IsAcceptanceTold true text = text ≡ codes "ACCEPTED: the witness satisfies all constraints, and its terminals sum to zero\n"
+IsAcceptanceTold true text = text ≡ codes "ACCEPTED: the witness satisfies the constraints of all lookups, and its terminals sum to zero\n"
 IsAcceptanceTold false text = (why : List ℕ) × (text ≡ codes "NOT ACCEPTED: " ++ why)
 
 -- the line that tells whether any witness is accepted
@@ -73,25 +77,28 @@ module _ {F K : Type 0} (fields : Fields F K) (text : List ℕ) (files : List Fi
     pub said : AreSaid (of_nat fields.extension.base) text sections 1048576 (airs_of sections) tables traced
 
   -- The answer to `check`: there is a report of the lookups, the traces and the constraints that the files say, with as
-  -- many tuples as are asked for, or 64 if those are fewer; and the answer is yes if all messages balance and all
-  -- constraints hold, and no otherwise. Its last line shows which of the two are so.
-  pub record IsVerdict (number : F → ℕ) (limit max_degree : ℕ) (json : Bool) (answer : Answer) : Type 0 where
+  -- many tuples as are asked for, or 64 if those are fewer. The answer is yes if all messages balance, all constraints
+  -- hold and no count is above what is said of it, and if, where that is asked, all flags and weights are shown to be
+  -- enforced; and no otherwise. Its last lines show which of these are so.
+  pub record IsVerdict (number : F → ℕ) (limit max_degree : ℕ) (json enforced : Bool) (answer : Answer) : Type 0 where
     pub traced : List (Traced F)
     pub batch : IsReadBatch traced
     pub report : Report F
     pub found : IsFound fields.extension fields.characteristic (max limit 64) max_degree number traced report
     pub airs : List (Constrained F)
     pub constrained : AreConstrained (of_nat fields.extension.base) text batch.sections 1048576 (airs_of batch.sections) batch.tables airs
-    pub checked : AreChecked fields.extension.base airs report.failures.items
-    pub hold : IsTrue report.hold ↔ AllHold fields.extension.base airs
-    pub verdict : answer.yes ≡ (report.balanced && report.hold)
-    pub good : IsTrue answer.yes ↔ (AllBalance fields.extension.base fields.extension.base_eq traced × AllHold fields.extension.base airs)
-    pub told : EndsWith json (verdict_line report.balanced report.hold) answer.text.items
+    pub shown : AreConstraintsFound fields.extension.base fields.extension.base_eq fields.characteristic number airs report
+    pub verdict : answer.yes ≡ ((report.balanced && (report.hold && report.within)) && (not enforced || report.enforced.all))
+    pub good : IsTrue answer.yes ↔ ((AllBalance fields.extension.base fields.extension.base_eq traced
+        × (AllHold fields.extension.base airs × AllStayWithin fields.characteristic number fields.extension.base fields.extension.base_eq airs))
+        × (IsTrue enforced → All IsAllEnforced report.enforced.airs.items))
+    pub told : EndsWith json (verdict_line report.balanced report.hold report.within ++ enforced_line enforced report.enforced.all) answer.text.items
 
-  -- The answer to `plan` and to `pack`: the text and the sizes of its AIRs can be read, no bus is declared twice,
-  -- and there is a report of a plan of the lookups that the text says; and the answer is yes if as many bits are left
-  -- as are wanted.
-  pub record IsPlanned (max_degree challenges : ℕ) (target : Option ℕ) (answer : Answer) : Type 0 where
+  -- The answer to `plan` and to `pack`: the text and the sizes of its AIRs can be read, no bus is declared twice, and
+  -- there is a report of a plan of the lookups that the text says, and of what their constraints enforce; and the answer is
+  -- yes if as many bits are left as are wanted, and if, where that is asked, all flags and weights are shown to be
+  -- enforced.
+  pub record IsPlanned (max_degree challenges : ℕ) (target : Option ℕ) (enforced : Bool) (answer : Answer) : Type 0 where
     pub sections : List Section
     pub read : batch_at text ≡ Ok sections
     pub distinct : distinct_buses text sections ≡ Ok tt
@@ -104,7 +111,12 @@ module _ {F K : Type 0} (fields : Fields F K) (text : List ℕ) (files : List Fi
     pub plan : PlanOf F
     pub report : PlanReport
     pub found : IsPlanFound fields.extension fields.characteristic max_degree (sized_over lookups shapes) plan report
-    pub yes : IsTrue answer.yes ↔ MeetsTarget challenges target report.heights.bad_betas report.heights.accepting_alphas
+    pub shown : EnforcedAirs
+    pub assertions : List (Asserted F)
+    pub asserted : AreAsserted (of_nat fields.extension.base) text (airs_of sections) shapes said assertions
+    pub enforces : AreEnforcedAirs fields.extension.base fields.extension.base_eq assertions shown.airs.items
+    pub yes : IsTrue answer.yes ↔ (MeetsTarget challenges target report.heights.bad_betas report.heights.accepting_alphas
+        × (IsTrue enforced → All IsAllEnforced shown.airs.items))
 
   -- The answer to `show`, which is yes: the text and the sizes of its AIRs can be read, no bus is declared twice, and the
   -- items of all AIRs say something.
@@ -162,9 +174,9 @@ module _ {F K : Type 0} (fields : Fields F K) (text : List ℕ) (files : List Fi
   -- The answer to a task over a field with so many challenges. `number` is the number that an element of a trace is told
   -- as.
   abbrev pub AnswersOver : (F → ℕ) → ℕ → Task → List ℕ → Answer → Type 0
-  AnswersOver number challenges (Check limit degree json) witness answer = IsVerdict number limit degree json answer
-  AnswersOver number challenges (Plan degree json target) witness answer = IsPlanned degree challenges target answer
-  AnswersOver number challenges (Pack degree json) witness answer = IsPlanned degree challenges None answer
+  AnswersOver number challenges (Check limit degree json enforced) witness answer = IsVerdict number limit degree json enforced answer
+  AnswersOver number challenges (Plan degree json target enforced) witness answer = IsPlanned degree challenges target enforced answer
+  AnswersOver number challenges (Pack degree json) witness answer = IsPlanned degree challenges None false answer
   AnswersOver number challenges (Show json) witness answer = IsShown answer
   AnswersOver number challenges (OfWitness words out) witness answer = IsWitnessed words answer
   AnswersOver number challenges (Accept words file) witness answer = IsAcceptance words witness answer

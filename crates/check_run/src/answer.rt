@@ -1,7 +1,7 @@
 //! What a run answers.
 ghost use Rattle.std.specs.Prelude.{◌≡◌, true};
 
-use check_report::Page;
+use check_page::Page;
 
 /// What a run answers: a text, and whether it says yes.
 #[derive(Debug, Drop)]

@@ -1,5 +1,5 @@
 //! The commands about a batch, each from the bytes of its files to its answer.
-ghost use Rattle.std.specs.Prelude.{◌≡◌, ◌⊎◌, Err, MatchResult, Ok, map, true};
+ghost use Rattle.std.specs.Prelude.{◌≡◌, ◌⊎◌, ◌&&◌, ◌||◌, Err, MatchResult, Ok, map, not, true};
 ghost use Rattle.language_meaning.specs.Files.{named_of};
 ghost use Rattle.language_meaning.specs.Shapes.{shape_of};
 ghost use Rattle.check_judge.specs.Causes.{IsBusRefusalOr, IsSayingRefusal};
@@ -15,8 +15,10 @@ use crate::reading::{batch_of, shapes_in, tables_in};
 use crate::witness::{accept, any, witness};
 use check_json::{push_airs_json, push_lookups_json, push_plan_json, push_report_json};
 use check_judge::{JudgeFault, airs_named, airs_of, judge, judge_plan, sets_over};
+use check_page::{Page, Told};
 use check_report::{
-    Given, Page, RunRefusal, Told, push_airs, push_lookups, push_plan, push_report, push_target,
+    Given, RunRefusal, push_airs, push_enforced_line, push_lookups, push_plan, push_report,
+    push_target,
 };
 use check_words::Task;
 use field_list::{FieldEntry, TableField};
@@ -47,15 +49,37 @@ pub(crate) fn answer_over<F: TableField, EF: Challenge<F>>(
             limit,
             degree,
             json,
-        } => check::<F, EF>(alloc, given, field, limit, degree, json),
+            enforced,
+        } => check::<F, EF>(alloc, given, field, limit, degree, json, enforced),
         Task::Plan {
             degree,
             json,
             target,
-        } => plan::<F, EF>(alloc, given, field, degree, json, target, false),
-        Task::Pack { degree, json } => {
-            plan::<F, EF>(alloc, given, field, degree, json, None, true)
-        }
+            enforced,
+        } => plan::<F, EF>(
+            alloc,
+            given,
+            field,
+            PlanTask {
+                degree,
+                json,
+                target,
+                enforced,
+                airs_alone: false,
+            },
+        ),
+        Task::Pack { degree, json } => plan::<F, EF>(
+            alloc,
+            given,
+            field,
+            PlanTask {
+                json,
+                target: None,
+                enforced: false,
+                degree,
+                airs_alone: true,
+            },
+        ),
         Task::Show { json } => show::<F, EF>(alloc, given, json),
         Task::Witness { challenges, .. } => witness::<F, EF>(alloc, given, field, challenges),
         Task::Accept {
@@ -66,7 +90,26 @@ pub(crate) fn answer_over<F: TableField, EF: Challenge<F>>(
     }
 }
 
-/// `check`: whether all balances and all constraints hold, over a field.
+/// What `plan` or `pack` is asked.
+#[derive(Clone, Copy)]
+struct PlanTask {
+    degree: usize,
+    json: bool,
+    target: Option<u64>,
+    enforced: bool,
+    /// Whether the AIRs alone are told, as by `pack`.
+    airs_alone: bool,
+}
+
+/// Whether the answer is yes, where the rest is good: unless it is asked whether all is enforced, and it is not.
+fn is_yes(good: bool, asked: bool, all: bool) -> bool
+    ensures { result ≡ (good && (not asked || all)) }
+{
+    good && (!asked || all)
+}
+
+/// `check`: whether all balances, all constraints hold and no count is above what the text says, over a field; and
+/// whether all is enforced, if that is asked.
 fn check<F: TableField, EF: Challenge<F>>(
     alloc: Global,
     given: Given<'_>,
@@ -74,11 +117,12 @@ fn check<F: TableField, EF: Challenge<F>>(
     limit: usize,
     max_degree: usize,
     json: bool,
+    enforced: bool,
 ) -> Result<Answer, RunRefusal>
     ensures { let E = ⟦<EF as Written<F>>⟧.fields in
         let text = given.entry.text.now in
         let files = map named_of given.entry.files.now in
-        MatchResult result (IsVerdict E text files F.number limit max_degree json)
+        MatchResult result (IsVerdict E text files F.number limit max_degree json enforced)
         (λ e. (e ≡ RunRefusal.Memory) ⊎ IsCheckRefused E text files max_degree) }
 {
     let batch = batch_of(alloc, given)?;
@@ -95,6 +139,7 @@ fn check<F: TableField, EF: Challenge<F>>(
                 field,
                 limit,
                 max_degree,
+                enforced,
             };
             if json {
                 push_report_json(&mut page, told, &report)?;
@@ -103,7 +148,7 @@ fn check<F: TableField, EF: Challenge<F>>(
             }
             Ok(Answer {
                 text: page.bytes,
-                yes: report.is_good(),
+                yes: is_yes(report.is_good(), enforced, report.enforced.all),
             })
         }
         Err(fault) => Err(RunRefusal::of_judge(alloc, given, &batch, fault)?),
@@ -115,21 +160,18 @@ fn plan<F: TableField, EF: Challenge<F>>(
     alloc: Global,
     given: Given<'_>,
     field: FieldEntry,
-    max_degree: usize,
-    json: bool,
-    target: Option<u64>,
-    airs_alone: bool,
+    task: PlanTask,
 ) -> Result<Answer, RunRefusal>
     ensures { let E = ⟦<EF as Written<F>>⟧.fields in
         let text = given.entry.text.now in
         let files = map named_of given.entry.files.now in
-        MatchResult result (IsPlanned E text files max_degree field.challenges target)
-        (λ e. (e ≡ RunRefusal.Memory) ⊎ IsPlanRefused E text files max_degree) }
+        MatchResult result (IsPlanned E text files task.degree field.challenges task.target task.enforced)
+        (λ e. (e ≡ RunRefusal.Memory) ⊎ IsPlanRefused E text files task.degree) }
 {
     let batch = batch_of(alloc, given)?;
     let shapes = shapes_in(alloc, given, &batch, F::modulus())?;
-    match judge_plan::<F, EF>(alloc, given.text, &batch, &shapes, max_degree) {
-        Ok(report) => {
+    match judge_plan::<F, EF>(alloc, given.text, &batch, &shapes, task.degree) {
+        Ok(judged) => {
             let mut page = Page::new(alloc);
             let airs = airs_of(alloc, &batch)?;
             let told = Told {
@@ -138,21 +180,24 @@ fn plan<F: TableField, EF: Challenge<F>>(
                 airs: airs.as_slice(),
                 field,
                 limit: 0,
-                max_degree,
+                max_degree: task.degree,
+                enforced: task.enforced,
             };
-            let yes = report.for_all_traces().meets(field.challenges, target);
-            match (airs_alone, json) {
+            let report = &judged.report;
+            let meets = report.for_all_traces().meets(field.challenges, task.target);
+            match (task.airs_alone, task.json) {
                 (true, true) => push_airs_json(&mut page, told, &report.airs)?,
                 (true, false) => push_airs(&mut page, told, &report.airs)?,
-                (false, true) => push_plan_json(&mut page, told, &report, target, yes)?,
+                (false, true) => push_plan_json(&mut page, told, &judged, task.target, meets)?,
                 (false, false) => {
-                    push_plan(&mut page, told, &report)?;
-                    push_target(&mut page, target, yes)?;
+                    push_plan(&mut page, told, &judged)?;
+                    push_target(&mut page, task.target, meets)?;
+                    push_enforced_line(&mut page, task.enforced, judged.enforced.all)?;
                 }
             }
             Ok(Answer {
                 text: page.bytes,
-                yes,
+                yes: is_yes(meets, task.enforced, judged.enforced.all),
             })
         }
         Err(fault) => Err(RunRefusal::of_judge(alloc, given, &batch, fault)?),

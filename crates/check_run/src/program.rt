@@ -17,7 +17,8 @@ use crate::answer::Answer;
 use crate::commands::answer_over;
 use check_json::push_bits_json;
 use check_judge::Deceiving;
-use check_report::{Given, Page, RunRefusal, push_bits_table, push_target};
+use check_page::Page;
+use check_report::{Given, RunRefusal, push_bits_table, push_target};
 use check_words::{Asked, BatchRequest, BitsRequest, Task, WordsRefusal};
 use field_list::{FieldList, FieldTask, OfferedField};
 use field_words::Written;
@@ -49,9 +50,10 @@ pub struct Inputs<'a> {
 /// whole unless a write fails; that an answer ends with status 2 only where a write fails; and that
 /// `accept` refuses no text of a witness.
 ///
-/// The answer to `check` is whether all messages balance and all constraints hold, to `plan` and `bits`
-/// whether as many bits are left as are wanted, to `accept` whether the witness is accepted, and to `any`
-/// whether any is; to the other commands it is yes.
+/// The answer to `check` is whether all messages balance, all constraints hold and no count is above what the text
+/// says, to `plan` and `bits` whether as many bits are left as are wanted, to `accept` whether the witness is accepted,
+/// and to `any` whether any is; to the other commands it is yes. With `--enforced` the answer to `check` and `plan` is
+/// no as well if not all flags and weights are shown to be enforced.
 pub fn run<L: FieldList, W: Write, E: Write>(
     alloc: Global,
     said: Result<Asked<'_>, WordsRefusal>,

@@ -9,7 +9,8 @@ use crate::answer::Answer;
 use crate::opened::opened;
 use batch::{BatchError, GridCount, Witness};
 use check_judge::{JudgeFault, traces_of};
-use check_report::{Given, Page, RunRefusal};
+use check_page::Page;
+use check_report::{Given, RunRefusal};
 use check_words::ChallengeWords;
 use field::Field;
 use field_list::{FieldEntry, TableField};
@@ -105,7 +106,9 @@ fn accepted(alloc: Global) -> Result<Answer, RunRefusal>
         × IsAcceptanceTold true answer.text.items) }
 {
     let mut page = Page::new(alloc);
-    page.word("ACCEPTED: the witness satisfies all constraints, and its terminals sum to zero\n")?;
+    page.word(
+        "ACCEPTED: the witness satisfies the constraints of all lookups, and its terminals sum to zero\n",
+    )?;
     Ok(Answer {
         text: page.bytes,
         yes: true,

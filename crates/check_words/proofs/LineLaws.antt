@@ -1,7 +1,9 @@
 -- From what `clap` says of its commands and parses to what words ask for.
-use Rattle.std.proofs.Common.{◌∙◌, ◌≡◌, Bool, List, [], true, ap, ap₂, inl, inr, refl, subst}
+use Rattle.std.proofs.Common.{◌∙◌, ◌≡◌, Bool, List, [], Option, None, Some, true, false, ap, ap₂, codes, eqb, inl, inr, option_map, refl, subst, subst₂, sym, unwrap_or}
+use Rattle.std.proofs.lemmas.Bool.{true≢false}
+use Rattle.std.specs.Cmp.Lexicographic.{pointwise}
 use Rattle.std.specs.Prelude.{◌||◌}
-use Rattle.clap.specs.Words.{AddsArg, AddsSubcommand, App, HasKind, HasMatchesOf, Rule, Text, fault_of, is_simple, is_simple_and_free, kind_of, subcommand_of, subcommand_rows_of, with_rule, with_subcommand}
+use Rattle.clap.specs.Words.{AddsArg, AddsSubcommand, App, HasKind, HasMatchesOf, Row, Rule, Text, fault_of, is_simple, is_simple_and_free, kind_of, subcommand_of, subcommand_rows_of, with_rule, with_subcommand}
 use Rattle.clap.specs.declared.builder.arg.Arg.{Arg}
 use Rattle.clap.specs.declared.builder.command.Command.{Command}
 use Rattle.clap.specs.declared.error.Error.{Error}
@@ -10,7 +12,10 @@ use Rattle.clap.proofs.OnLiterals.{clap_on_literals}
 use Rattle.check_words.specs.Line.{NameList, line_app}
 use Rattle.check_words.specs.internal.Commands.{IsArg, IsCommand}
 use Rattle.check_words.specs.internal.Refusals.{IsMistake, TellsKind}
-use Rattle.check_words.specs.Words.{AsksNothing, IsRefused}
+use Rattle.check_words.specs.Words.{Asks, AsksNothing, IsBatch, IsRefused}
+use Rattle.check_words.specs.declared.request.Asked.{Asked}
+use Rattle.check_words.specs.declared.request.Asked.TheVariants.{Batch, Bits}
+use Rattle.check_words.specs.declared.request.BatchRequest.{BatchRequest}
 use Rattle.check_words.specs.declared.refusal.WordsRefusal.{WordsRefusal}
 use Rattle.check_words.specs.declared.refusal.WordsRefusal.TheVariants.{Memory, Help, Told}
 
@@ -73,3 +78,14 @@ pub same_subcommand : (fields : NameList) (app : App) (words : List Text) (m : A
 same_subcommand fields app words m same has =
     let free : is_simple app ≡ true = ap is_simple same ∙ line_is_walked fields in
     (has free).1 ∙ ap (λ (a : App). subcommand_of a words) same
+
+-- a command that is no request of a batch, and is not `bits`, is no request
+pub no_request : {S : Type 0} (name_of : S → Text) (rows_of : S → List Row) (met : Option S) (name : Text) (rows : List Row) (is_bits : Bool)
+    → Some name ≡ option_map name_of met → Some rows ≡ option_map (λ (p : Text × List Row). p.1) (option_map (λ s. (name_of s, rows_of s)) met)
+    → is_bits ≡ pointwise eqb name (codes "bits") → is_bits ≡ false → ((x : BatchRequest) → IsBatch name rows x → ⊥)
+    → (x : Asked) → Asks (option_map (λ s. (name_of s, rows_of s)) met) x → ⊥
+no_request name_of rows_of None name rows is_bits named has bits other none x asks = asks
+no_request name_of rows_of (Some s) name rows is_bits named has bits other none (Batch x) asks =
+    none x (subst₂ (λ (n : Text) (rs : List Row). IsBatch n rs x) (sym (ap (λ o. unwrap_or o name) named)) (sym (ap (λ o. unwrap_or o rows) has)) asks)
+no_request name_of rows_of (Some s) name rows is_bits named has bits other none (Bits x) asks =
+    absurd (true≢false (ap (λ (n : Text). pointwise eqb n (codes "bits")) (sym (ap (λ o. unwrap_or o name) named ∙ asks.0)) ∙ (sym bits ∙ other)))

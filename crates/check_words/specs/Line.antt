@@ -36,6 +36,10 @@ progress_rule = flag_rule (codes "progress")
 abbrev pub json_rule : Rule
 json_rule = flag_rule (codes "json")
 
+-- the flag for what is enforced
+abbrev pub enforced_rule : Rule
+enforced_rule = flag_rule (codes "enforced")
+
 -- an option whose value is a number of 64 bits, from `least` on
 abbrev pub number_rule : Text → ℕ → Rule
 number_rule id least = record (new_rule id) {
@@ -103,15 +107,15 @@ abbrev pub file_app : Text → NameList → App
 file_app name fields =
     with_rules (new_app name) (file_rule ∷ field_rule fields ∷ progress_rule ∷ [])
 
--- `check FILE .. [--limit N] [--degree D] [--json]`
+-- `check FILE .. [--limit N] [--degree D] [--json] [--enforced]`
 abbrev pub check_app : NameList → App
 check_app fields =
-    with_rules (file_app (codes "check") fields) (limit_rule ∷ degree_rule ∷ json_rule ∷ [])
+    with_rules (file_app (codes "check") fields) (limit_rule ∷ degree_rule ∷ json_rule ∷ enforced_rule ∷ [])
 
--- `plan FILE .. [--degree D] [--json] [--target B]`
+-- `plan FILE .. [--degree D] [--json] [--enforced] [--target B]`
 abbrev pub plan_app : NameList → App
 plan_app fields =
-    with_rules (file_app (codes "plan") fields) (degree_rule ∷ json_rule ∷ target_rule ∷ [])
+    with_rules (file_app (codes "plan") fields) (degree_rule ∷ json_rule ∷ enforced_rule ∷ target_rule ∷ [])
 
 -- `pack FILE .. --degree D [--json]`
 abbrev pub pack_app : NameList → App

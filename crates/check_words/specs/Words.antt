@@ -56,12 +56,12 @@ HasChallenges rows words = HasText rows (codes "alpha") words.alpha.now
 
 -- the command `name` is this task of a batch
 abbrev pub IsTask : Text → List Row → Task → Type 0
-IsTask name rows (Check limit degree json) = (name ≡ codes "check")
+IsTask name rows (Check limit degree json enforced) = (name ≡ codes "check")
     × HasNumber rows (codes "limit") limit × HasNumber rows (codes "degree") degree
-    × HasFlagArgument rows (codes "json") json
-IsTask name rows (Plan degree json target) = (name ≡ codes "plan")
+    × HasFlagArgument rows (codes "json") json × HasFlagArgument rows (codes "enforced") enforced
+IsTask name rows (Plan degree json target enforced) = (name ≡ codes "plan")
     × HasNumber rows (codes "degree") degree × HasFlagArgument rows (codes "json") json
-    × HasOptionalNumber rows (codes "target") target
+    × HasOptionalNumber rows (codes "target") target × HasFlagArgument rows (codes "enforced") enforced
 IsTask name rows (Pack degree json) = (name ≡ codes "pack")
     × HasNumber rows (codes "degree") degree × HasFlagArgument rows (codes "json") json
 IsTask name rows (Show json) = (name ≡ codes "show") × HasFlagArgument rows (codes "json") json

@@ -1,5 +1,5 @@
 //! The arguments and options of the program's commands, for `clap`.
-ghost use Rattle.check_words.specs.Line.{alpha_rule, beta_rule, degree_rule, field_rule};
+ghost use Rattle.check_words.specs.Line.{alpha_rule, beta_rule, degree_rule, enforced_rule, field_rule};
 ghost use Rattle.check_words.specs.Line.{file_rule, flag_rule, json_rule, limit_rule};
 ghost use Rattle.check_words.specs.Line.{messages_rule, number_rule, out_rule, progress_rule};
 ghost use Rattle.check_words.specs.Line.{target_rule, text_rule, unbalanced_rule};
@@ -51,6 +51,15 @@ pub fn json_arg<'a>(alloc: Global) -> Arg<'a>
     ensures { IsArg json_rule result }
 {
     flag_arg(alloc, "json").help("Writes JSON")
+}
+
+/// Whether all has to be enforced.
+pub fn enforced_arg<'a>(alloc: Global) -> Arg<'a>
+    ensures { IsArg enforced_rule result }
+{
+    flag_arg(alloc, "enforced").help(
+        "Answers no unless the constraints enforce all flags and weights",
+    )
 }
 
 /// An option whose value is a number, from `least` on.

@@ -8,8 +8,9 @@ ghost use Rattle.check_words.specs.Line.{witness_app};
 ghost use Rattle.check_words.specs.internal.Commands.{IsCommand};
 
 use crate::arguments::{
-    alpha_arg, beta_arg, degree_arg, field_arg, file_arg, json_arg, limit_arg, messages_arg,
-    out_arg, progress_arg, target_arg, unbalanced_arg, wanted_degree_arg, width_arg, witness_arg,
+    alpha_arg, beta_arg, degree_arg, enforced_arg, field_arg, file_arg, json_arg, limit_arg,
+    messages_arg, out_arg, progress_arg, target_arg, unbalanced_arg, wanted_degree_arg, width_arg,
+    witness_arg,
 };
 use clap::Command;
 use std::alloc::{AllocError, Global};
@@ -55,7 +56,8 @@ fn check_command<'a>(alloc: Global, fields: &'a [&'a str]) -> Result<Command<'a>
     file_command(alloc, "check", about, fields)?
         .arg(limit_arg(alloc))?
         .arg(degree_arg(alloc))?
-        .arg(json_arg(alloc))
+        .arg(json_arg(alloc))?
+        .arg(enforced_arg(alloc))
 }
 
 fn plan_command<'a>(alloc: Global, fields: &'a [&'a str]) -> Result<Command<'a>, AllocError>
@@ -65,6 +67,7 @@ fn plan_command<'a>(alloc: Global, fields: &'a [&'a str]) -> Result<Command<'a>,
     file_command(alloc, "plan", about, fields)?
         .arg(degree_arg(alloc))?
         .arg(json_arg(alloc))?
+        .arg(enforced_arg(alloc))?
         .arg(target_arg(alloc))
 }
 

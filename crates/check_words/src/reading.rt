@@ -88,6 +88,7 @@ fn check_of<'a>(found: &ArgMatches<'a>) -> Option<Task<'a>>
         limit: number_of(found, "limit")? as usize,
         degree: number_of(found, "degree")? as usize,
         json: is_set(found, "json"),
+        enforced: is_set(found, "enforced"),
     })
 }
 
@@ -98,6 +99,7 @@ fn plan_of<'a>(found: &ArgMatches<'a>) -> Option<Task<'a>>
         degree: number_of(found, "degree")? as usize,
         json: is_set(found, "json"),
         target: optional_number_of(found, "target")?,
+        enforced: is_set(found, "enforced"),
     })
 }
 

@@ -24,18 +24,21 @@ pub struct BatchRequest<'a> {
 /// What is to be done with a batch.
 #[derive(Debug, Clone, Copy, PartialEq, Eq)]
 pub enum Task<'a> {
-    /// Say whether the batch balances. Of each bus and of each tuple, `limit` faults are told.
+    /// Say whether the batch balances. Of each bus and of each tuple, `limit` faults are told. With `enforced`, say
+    /// also whether its constraints enforce all flags and weights.
     Check {
         limit: usize,
         degree: usize,
         json: bool,
+        enforced: bool,
     },
-    /// Say what holds of its AIRs, as far as no trace is needed, and whether `target` bits are
-    /// reached.
+    /// Say what holds of its AIRs, as far as no trace is needed, whether `target` bits are reached, and with
+    /// `enforced` whether its constraints enforce all flags and weights.
     Plan {
         degree: usize,
         json: bool,
         target: Option<u64>,
+        enforced: bool,
     },
     /// Say which of its lookups share a column within `degree`.
     Pack {

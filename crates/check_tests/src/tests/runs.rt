@@ -58,6 +58,9 @@ fn verdicts(rt: HostRuntime) {
     holds(&rt, "unbalanced", ends(alloc, &check, b"x\n4\n1\n2\n", 1));
     holds(&rt, "fewer rows", ends(alloc, &check, b"x\n4\n1\n", 1));
     holds(&rt, "no number", ends(alloc, &check, b"x\n4\n1\ny\n", 2));
+    // All messages count once, and there are no flags.
+    let asked = ["check", "batch.lookups", "--enforced"];
+    holds(&rt, "all enforced", ends(alloc, &asked, b"x\n3\n1\n2\n", 0));
     let over = ["check", "batch.lookups", "--field", "koalabear4"];
     holds(
         &rt,

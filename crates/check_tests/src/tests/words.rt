@@ -76,6 +76,7 @@ fn check(limit: usize, degree: usize, json: bool) -> Task<'static> {
         limit,
         degree,
         json,
+        enforced: false,
     }
 }
 
@@ -84,6 +85,26 @@ fn plan(degree: usize, json: bool, target: Option<u64>) -> Task<'static> {
         degree,
         json,
         target,
+        enforced: false,
+    }
+}
+
+/// `check` and `plan` with their defaults, which ask whether all is enforced.
+fn enforced_check() -> Task<'static> {
+    Task::Check {
+        limit: 4,
+        degree: 3,
+        json: false,
+        enforced: true,
+    }
+}
+
+fn enforced_plan() -> Task<'static> {
+    Task::Plan {
+        degree: 3,
+        json: false,
+        target: None,
+        enforced: true,
     }
 }
 
@@ -155,6 +176,8 @@ fn requests_without_challenges(rt: HostRuntime) {
             "plan a --target 18446744073709551615",
             quiet("a", BABY, plan(3, false, Some(18_446_744_073_709_551_615))),
         ),
+        ("check --enforced a", quiet("a", BABY, enforced_check())),
+        ("plan a --enforced", quiet("a", BABY, enforced_plan())),
         ("pack a --degree 4", quiet("a", BABY, pack(4, false))),
         (
             "pack --progress --degree=2 --json --field goldilocks2 b",

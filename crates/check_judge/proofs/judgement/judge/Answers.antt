@@ -1,4 +1,4 @@
-use Rattle.std.proofs.Common.{◌≡◌, ◌↔◌, ◌∙◌, All, IsTrue, List, Option, None, ap, inl, inr, map, refl, subst, sym}
+use Rattle.std.proofs.Common.{◌≡◌, ◌↔◌, ◌∙◌, All, Global, IsTrue, List, Option, None, Vec, ap, inl, inr, map, refl, subst, sym}
 use Rattle.std.proofs.lemmas.Result.{err_from_is_err_and}
 use Rattle.std.proofs.lemmas.Simd.{map-map}
 use Rattle.batch.specs.Runs.{plan_of}
@@ -14,7 +14,15 @@ use Rattle.check_judge.specs.Found.{IsPlanOf, sized_of}
 use Rattle.check_judge.specs.Said.{airs_of}
 use Rattle.check_judge.specs.Airs.{AreFittingAirs, over_traced}
 use Rattle.check_judge.specs.Constraints.{AreChecked, over_constrained}
+use Rattle.std.specs.List.{AllZip}
+use Rattle.check_judge.specs.Enforced.{AreEnforcedAirs, asserted_of}
+use Rattle.check_judge.specs.Excesses.{AreExcesses}
 use Rattle.check_judge.specs.declared.constraints.ConstraintFailure.{ConstraintFailure}
+use Rattle.check_judge.specs.declared.enforced.EnforcedAir.{EnforcedAir}
+use Rattle.check_judge.specs.declared.excess.Excess.{Excess}
+use Rattle.check_judge.proofs.EnforcedLaws.{enforced_of_airs}
+use Rattle.check_judge.proofs.ExcessLaws.{within_exactly}
+use Rattle.check_judge.proofs.SizeLaws.{images_zip}
 use Rattle.check_judge.specs.internal.Sizes.{sized_lookups_of}
 use Rattle.check_judge.specs.internal.Sharing.{AllHaveTuples}
 use Rattle.check_judge.proofs.CauseLaws.{kept_refusal}
@@ -73,14 +81,35 @@ returns-clause-found g c =
 pub failures_of-requires : goal.failures_of-requires
 failures_of-requires g c = subst AreFittingAirs (sym c.deref-8.ensures.value) c.in_ok-airs.ensures.fit
 
+pub excesses_of-requires : goal.excesses_of-requires
+excesses_of-requires g c = subst AreFittingAirs (sym c.deref-11.ensures.value) c.in_ok-airs.ensures.fit
+
 pub returns-clause-constraints : goal.returns-clause-constraints
 returns-clause-constraints g c =
     let R = g.F.PrimeCharacteristicRing.ring in
+    let eq = g.F.PartialEq.eq in
+    let p = g.F.PrimeCharacteristicRing.CHARACTERISTIC in
+    let number = g.F.SignedField.number in
     let airs = c.in_ok-airs.field-0.airs.items in
     let found = c.in_ok-failures.failures.items in
+    let above = c.in_ok-excesses.excesses.items in
+    let shown = c.of_airs-enforced.result.airs.items in
     let checked = subst (λ over. AreChecked R (map over_constrained over) found) c.deref-8.ensures.value (checked_over R c.deref-8.result.now found c.in_ok-failures.ensures) in
     let told = subst (λ (fs : List (Option (ConstraintFailure _))). IsTrue c.all_hold-hold.result ↔ All (λ failure. failure ≡ None) fs) c.deref-9.ensures.value c.all_hold-hold.ensures in
-    (map over_constrained airs, c.in_ok-airs.ensures.constrained, checked, hold_exactly R (map over_constrained airs) found c.all_hold-hold.result checked told)
+    let enforced = subst (λ over. AreEnforcedAirs R eq (map asserted_of (map over_constrained over)) c.in_ok-enforced_over.field-0.items) c.deref-10.ensures.value (enforced_of_airs R eq c.deref-10.result.now c.in_ok-enforced_over.field-0.items c.in_ok-enforced_over.ensures) in
+    let excesses = subst (λ over. AllZip (λ x f. AreExcesses p number R eq x f.items) (map over_constrained over) above) c.deref-11.ensures.value (images_zip (λ x f. AreExcesses p number R eq x f.items) over_constrained c.deref-11.result.now above c.in_ok-excesses.ensures) in
+    let within = subst (λ (fs : List (Vec (Option (Excess _)) Global)). IsTrue c.are_all_within-within.result ↔ All (λ f. All (λ e. e ≡ None) f.items) fs) c.deref-12.ensures.value c.are_all_within-within.ensures in (
+      map over_constrained airs,
+      c.in_ok-airs.ensures.constrained,
+      record {
+        checked = checked;
+        hold = hold_exactly R (map over_constrained airs) found c.all_hold-hold.result checked told;
+        enforced = subst (λ (v : Vec EnforcedAir Global). AreEnforcedAirs R eq (map asserted_of (map over_constrained airs)) v.items) (sym c.of_airs-enforced.ensures.airs) enforced;
+        all_enforced = c.of_airs-enforced.ensures.all;
+        excesses = excesses;
+        within = within_exactly p number R eq (map over_constrained airs) above c.are_all_within-within.result excesses within;
+      },
+    )
 
 pub returns-in_err-airs-clause-found : goal.returns-in_err-airs-clause-found
 returns-in_err-airs-clause-found g c =

@@ -1,4 +1,4 @@
-use Rattle.std.proofs.Common.{◌≡◌, ◌⊎◌, ◌∙◌, List, ap, map, subst, sym}
+use Rattle.std.proofs.Common.{◌≡◌, ◌⊎◌, ◌∙◌, ◌&&◌, ◌||◌, List, ap, map, not, subst, sym}
 use Rattle.field.specs.Ring.{of_nat}
 use Rattle.field_words.specs.Fields.{run_fields}
 use Rattle.language_meaning.specs.Files.{named_of}
@@ -11,7 +11,7 @@ use Rattle.check_judge.specs.declared.fault.JudgeFault.{JudgeFault}
 use Rattle.check_judge.specs.declared.fault.JudgeFault.TheVariants as fault
 use Rattle.check_judge.proofs.JudgeLaws.{found_within}
 use Rattle.check_run.proofs.RunRefusalLaws.{read_refused}
-use Rattle.check_run.proofs.VerdictLaws.{both_good}
+use Rattle.check_run.proofs.VerdictLaws.{good_verdict}
 use Rattle.check_run.proofs.commands.check.Goals as goal
 use Rattle.check_run.proofs.commands.check.Goals.{then-json+in_ok-push_report_json-in-Ok, else-json+in_ok-push_report-in-Ok}
 
@@ -21,6 +21,7 @@ returns-in-Ok g c =
     let sections = map section_of c.in_ok-batch.batch.sections.items in
     let traced = c.in-Ok.ensures.found.1 in
     let constraints = c.in-Ok.ensures.constraints in
+    let verdict = c.is_yes.ensures ∙ ap (λ good. good && (not c.args.enforced || c.in-Ok.report.enforced.all)) c.is_good.ensures in
     record {
       traced = traced;
       batch = record {
@@ -35,10 +36,9 @@ returns-in-Ok g c =
       found = found_within _ _ _ _ c.args.max_degree _ traced c.in-Ok.report c.max-most.ensures c.in-Ok.ensures.found.3;
       airs = constraints.0;
       constrained = subst (λ ts. AreConstrained (of_nat g.F.PrimeCharacteristicRing.ring) text sections 1048576 (airs_of sections) (map tables_of ts) constraints.0) c.deref.ensures.value constraints.1;
-      checked = constraints.2;
-      hold = constraints.3;
-      verdict = c.is_good.ensures;
-      good = both_good c.in-Ok.report.balanced c.in-Ok.report.hold c.is_good.result c.is_good.ensures c.in-Ok.ensures.found.3.balanced constraints.3;
+      shown = constraints.2;
+      verdict = verdict;
+      good = good_verdict c.in-Ok.report.balanced c.in-Ok.report.hold c.in-Ok.report.within c.args.enforced c.in-Ok.report.enforced.all c.is_yes.result verdict c.in-Ok.ensures.found.3.balanced constraints.2.hold constraints.2.within constraints.2.all_enforced;
       told = λ plain. elim c.if-json.branch [
         | then-json+in_ok-push_report_json-in-Ok w ↦ absurd (cc (sym plain ∙ w.if-json.true))
         | else-json+in_ok-push_report-in-Ok w ↦ (w.in_ok-push_report-in-Ok.ensures.0, ap (λ p. p.bytes.items) w.page-is ∙ w.in_ok-push_report-in-Ok.ensures.1)

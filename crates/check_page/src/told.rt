@@ -20,6 +20,8 @@ pub struct Told<'a> {
     pub limit: usize,
     /// The degree within which columns are packed.
     pub max_degree: usize,
+    /// Whether it is asked whether all flags and weights are enforced.
+    pub enforced: bool,
 }
 
 /// The name of the AIR with this number.
@@ -31,18 +33,14 @@ pub fn air_name(told: Told<'_>, air: usize) -> &[u8] {
 }
 
 /// Appends how a lookup or a constraint is printed: the word with which its item begins, and its line.
-pub(crate) fn push_lookup(page: &mut Page, item: &ItemText, line: usize) -> Result<(), AllocError> {
+pub fn push_lookup(page: &mut Page, item: &ItemText, line: usize) -> Result<(), AllocError> {
     page.word(first_word(item))?;
     page.word(" of line ")?;
     page.number(line as u128)
 }
 
 /// A cell with the name of a group.
-pub(crate) fn group_cell(
-    page: &Page,
-    told: Told<'_>,
-    group: &GroupName,
-) -> Result<Vec<u8>, AllocError> {
+pub fn group_cell(page: &Page, told: Told<'_>, group: &GroupName) -> Result<Vec<u8>, AllocError> {
     let mut cell = Page::new(page.alloc());
     match group {
         GroupName::Bus(name) => cell.shown(name.as_bytes())?,

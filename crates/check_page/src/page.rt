@@ -1,6 +1,6 @@
 //! Text that grows, and lines whose cells stand below each other.
 ghost use Rattle.std.specs.Prelude.{◌≡◌, ◌++◌, [], OnOk, map};
-ghost use Rattle.check_report.specs.Told.{shown_byte};
+ghost use Rattle.check_page.specs.Shown.{shown_byte};
 
 use std::alloc::{AllocError, Global};
 
@@ -35,7 +35,7 @@ impl Page {
     }
 
     /// Appends bytes of a file, each ASCII control character as a question mark.
-    pub(crate) fn shown(&mut self, bytes: &[u8]) -> Result<(), AllocError>
+    pub fn shown(&mut self, bytes: &[u8]) -> Result<(), AllocError>
         ensures { OnOk result (self.new.bytes.items
             ≡ self.old.bytes.items ++ map shown_byte bytes.now) }
     {
@@ -46,13 +46,13 @@ impl Page {
     }
 
     /// Appends a number in decimal digits.
-    pub(crate) fn number(&mut self, number: u128) -> Result<(), AllocError> {
+    pub fn number(&mut self, number: u128) -> Result<(), AllocError> {
         let text = format!(in self.alloc; "{number}")?;
         self.word(text.as_str())
     }
 
     /// Appends a number with a comma before each three digits.
-    pub(crate) fn grouped(&mut self, number: u128) -> Result<(), AllocError> {
+    pub fn grouped(&mut self, number: u128) -> Result<(), AllocError> {
         let text = format!(in self.alloc; "{number}")?;
         let digits = text.as_bytes();
         for (index, digit) in digits.iter().enumerate() {
@@ -65,7 +65,7 @@ impl Page {
     }
 
     /// Appends so many blanks.
-    pub(crate) fn blanks(&mut self, count: usize) -> Result<(), AllocError> {
+    pub fn blanks(&mut self, count: usize) -> Result<(), AllocError> {
         for _ in 0..count {
             self.bytes.push(b' ')?;
         }
@@ -74,17 +74,26 @@ impl Page {
 
     /// Appends lines of cells: each column is as wide as its widest cell, and two blanks stand
     /// before it. A column of this list is set to the right.
-    pub(crate) fn table(
+    pub fn table(&mut self, lines: &[Vec<Vec<u8>>], right: &[bool]) -> Result<(), AllocError> {
+        self.noted_table(lines, &[], right)
+    }
+
+    /// The same with a note below each line, as long as there are notes: lines of their own, or none.
+    pub fn noted_table(
         &mut self,
         lines: &[Vec<Vec<u8>>],
+        notes: &[Vec<u8>],
         right: &[bool],
     ) -> Result<(), AllocError> {
         let mut widths = Vec::new(self.alloc);
         for column in 0..right.len() {
             widths.push(widest_cell(lines, column))?;
         }
-        for line in lines {
+        for (index, line) in lines.iter().enumerate() {
             self.table_line(line, &widths, right)?;
+            if let Some(note) = notes.get(index) {
+                self.bytes.extend_from_slice(note)?;
+            }
         }
         Ok(())
     }
@@ -118,7 +127,7 @@ fn shown_byte(byte: u8) -> u8
 }
 
 /// How many characters some bytes have.
-pub(crate) fn characters(bytes: &[u8]) -> usize {
+pub fn characters(bytes: &[u8]) -> usize {
     bytes
         .iter()
         .filter(|byte| **byte < 128 || **byte >= 192)
@@ -137,26 +146,26 @@ fn widest_cell(lines: &[Vec<Vec<u8>>], column: usize) -> usize {
 }
 
 /// A cell with a word.
-pub(crate) fn word_cell(alloc: Global, word: &str) -> Result<Vec<u8>, AllocError> {
+pub fn word_cell(alloc: Global, word: &str) -> Result<Vec<u8>, AllocError> {
     Vec::from_slice(alloc, word.as_bytes())
 }
 
 /// A cell with bytes of a file.
-pub(crate) fn shown_cell(alloc: Global, bytes: &[u8]) -> Result<Vec<u8>, AllocError> {
+pub fn shown_cell(alloc: Global, bytes: &[u8]) -> Result<Vec<u8>, AllocError> {
     let mut page = Page::new(alloc);
     page.shown(bytes)?;
     Ok(page.bytes)
 }
 
 /// A cell with a number, grouped.
-pub(crate) fn number_cell(alloc: Global, number: u128) -> Result<Vec<u8>, AllocError> {
+pub fn number_cell(alloc: Global, number: u128) -> Result<Vec<u8>, AllocError> {
     let mut page = Page::new(alloc);
     page.grouped(number)?;
     Ok(page.bytes)
 }
 
 /// A cell with numbers between blanks.
-pub(crate) fn numbers_cell(alloc: Global, numbers: &[usize]) -> Result<Vec<u8>, AllocError> {
+pub fn numbers_cell(alloc: Global, numbers: &[usize]) -> Result<Vec<u8>, AllocError> {
     let mut page = Page::new(alloc);
     for (index, number) in numbers.iter().enumerate() {
         if index > 0 {
@@ -168,7 +177,7 @@ pub(crate) fn numbers_cell(alloc: Global, numbers: &[usize]) -> Result<Vec<u8>, 
 }
 
 /// A line of words.
-pub(crate) fn head(alloc: Global, words: &[&str]) -> Result<Vec<Vec<u8>>, AllocError> {
+pub fn head(alloc: Global, words: &[&str]) -> Result<Vec<Vec<u8>>, AllocError> {
     let mut cells = Vec::new(alloc);
     for word in words {
         cells.push(word_cell(alloc, word)?)?;

@@ -1,5 +1,7 @@
 //! What a text says of the AIRs and buses of a report, found again by their numbers.
-use language::{AirText, BatchText, BusText, ItemText, PlacedItem, SectionText, Span, Verb};
+use language::{
+    AirText, BatchText, BusText, ItemText, MessageText, PlacedItem, SectionText, Span, Tree, Verb,
+};
 use language_meaning::bytes_of;
 
 /// The lines of a text, found one after the other.
@@ -40,7 +42,7 @@ impl<'a> Lines<'a> {
 }
 
 /// The AIR with this number.
-pub(crate) fn air_at(batch: &BatchText, air: usize) -> Option<&AirText> {
+pub fn air_at(batch: &BatchText, air: usize) -> Option<&AirText> {
     let mut before = air;
     for section in &batch.sections {
         if let SectionText::Air(found) = section {
@@ -54,7 +56,7 @@ pub(crate) fn air_at(batch: &BatchText, air: usize) -> Option<&AirText> {
 }
 
 /// The declaration of the bus with this name.
-pub(crate) fn bus_named<'a>(text: &[u8], batch: &'a BatchText, name: &[u8]) -> Option<&'a BusText> {
+pub fn bus_named<'a>(text: &[u8], batch: &'a BatchText, name: &[u8]) -> Option<&'a BusText> {
     for section in &batch.sections {
         if let SectionText::Bus(bus) = section {
             if bytes_of(text, bus.name) == name {
@@ -74,7 +76,7 @@ pub fn lookup_at(air: &AirText, lookup: usize) -> Option<&PlacedItem> {
 }
 
 /// Whether an item has a lookup.
-pub(crate) fn is_lookup(item: &ItemText) -> bool {
+pub fn is_lookup(item: &ItemText) -> bool {
     matches!(
         item,
         ItemText::Message(_) | ItemText::Together(_) | ItemText::Exclusive(_)
@@ -82,7 +84,7 @@ pub(crate) fn is_lookup(item: &ItemText) -> bool {
 }
 
 /// How many constraints some AIRs have.
-pub(crate) fn constraint_count(airs: &[&AirText]) -> usize {
+pub fn constraint_count(airs: &[&AirText]) -> usize {
     let mut count = 0usize;
     for air in airs {
         let items = air.items.iter();
@@ -98,17 +100,64 @@ pub fn is_constraint(item: &ItemText) -> bool {
 }
 
 /// The word with which an item with a lookup or a constraint begins.
-pub(crate) fn first_word(item: &ItemText) -> &'static str {
+pub fn first_word(item: &ItemText) -> &'static str {
     match item {
-        ItemText::Message(message) => match message.verb {
-            Verb::Query => "query",
-            Verb::Provide => "provide",
-            Verb::Send => "send",
-            Verb::Receive => "receive",
-        },
+        ItemText::Message(message) => verb_word(message.verb),
         ItemText::Together(_) => "together",
         ItemText::Assert(_) | ItemText::AssertBool(_) => "assert",
         _ => "exclusive",
+    }
+}
+
+/// The word of a verb.
+pub fn verb_word(verb: Verb) -> &'static str {
+    match verb {
+        Verb::Query => "query",
+        Verb::Provide => "provide",
+        Verb::Send => "send",
+        Verb::Receive => "receive",
+    }
+}
+
+/// The message with this number of an item with a lookup.
+pub fn message_at(item: &ItemText, number: usize) -> Option<&MessageText> {
+    match item {
+        ItemText::Message(message) if number == 0 => Some(message),
+        ItemText::Together(parts) | ItemText::Exclusive(parts) => {
+            let part = parts.get(number)?;
+            Some(&part.message)
+        }
+        _ => None,
+    }
+}
+
+/// The flag of that message, if it has one.
+pub fn flag_at(item: &ItemText, number: usize) -> Option<&Tree> {
+    match item {
+        ItemText::Exclusive(parts) => parts.get(number)?.flag.as_ref(),
+        _ => None,
+    }
+}
+
+/// Whether an item has a message that is not provided.
+pub fn has_queries(item: &ItemText) -> bool {
+    match item {
+        ItemText::Message(message) => message.verb != Verb::Provide,
+        ItemText::Together(parts) | ItemText::Exclusive(parts) => {
+            parts.iter().any(|part| part.message.verb != Verb::Provide)
+        }
+        _ => false,
+    }
+}
+
+/// The most that a row adds to a count by a message.
+pub fn weight_of(message: &MessageText) -> u64 {
+    match (message.verb, message.at_most, &message.times) {
+        (Verb::Provide, _, _) => 0,
+        (_, Some(most), _) => most,
+        (_, None, None) => 1,
+        (_, None, Some(Tree::Number(number, _))) => *number,
+        _ => 0,
     }
 }
 
@@ -125,7 +174,7 @@ pub fn trace_file(air: &AirText, preprocessed: bool) -> Option<Span> {
 }
 
 /// The name of the public value with this number.
-pub(crate) fn public_name<'a>(text: &'a [u8], air: &AirText, index: usize) -> &'a [u8] {
+pub fn public_name<'a>(text: &'a [u8], air: &AirText, index: usize) -> &'a [u8] {
     let mut before = index;
     for item in &air.items {
         if let ItemText::Public(name, _) = &item.item {
