@@ -35,9 +35,6 @@ ANSWERS = {
         "fits": "true",
         "resolve": "Ok({printed})",
         "resolve_over": "Ok({printed})",
-        # as a constraint it never holds; the lookup of 1 has no flags, and its count is 1
-        "enforcements": "Ok([Enforcement {{ flags: true, bounds: [Some(1)], missing: None }}])",
-        "check_constraints": "Err(ConstraintFault {{ row: 0, constraint: 0 }})",
     },
     "lookup": {
         "constraint_degree": "Ok(1)",

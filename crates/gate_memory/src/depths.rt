@@ -7,14 +7,12 @@ use crate::generations::show_generated;
 use crate::sets::{pack_lookups, show_degrees};
 use crate::texts::written;
 use crate::trees;
-use air::{Expression, SymbolicExpression, SymbolicExpressionExt, Traces};
-use air_constraints::check_constraints;
+use air::{Expression, SymbolicExpression, SymbolicExpressionExt};
 use field::F7;
 use gate_memory_builders::inputs::{BALANCED, alone, trace};
 use gate_memory_builders::over::{Call, over_recorder};
 use gate_memory_builders::show::{Out, input, show};
 use lookup::{Kind, Lookup};
-use lookup_enforced::enforcements;
 use std::alloc::{AllocError, Global};
 
 /// An expression under one more layer.
@@ -81,26 +79,12 @@ fn bus(alloc: Global) -> Result<Kind, AllocError> {
     Ok(Kind::Global(String::from_str(alloc, "keys")?))
 }
 
-/// Calls on an expression, also as the constraint of a lookup of 1.
+/// Calls on an expression.
 fn on_tree(alloc: Global, out: &mut Out, tree: SymbolicExpression<F7>) {
     show(out, "serialize", written(alloc, &tree));
     trees::on_tree(alloc, out, &tree);
     if let Some(trees) = input(out, alone(alloc, tree)) {
         over_recorder::<F7, F7>(alloc, Call::Resolve, out, trees.as_slice(), &[]);
-        let one = SymbolicExpression::constant(F7::new(1));
-        if let Some(lookups) = input(out, one_lookup_of(alloc, one)) {
-            let shown = enforcements(alloc, trees.as_slice(), lookups.as_slice(), 2);
-            show(out, "enforcements", shown);
-        }
-        if let Some(main) = trace(alloc, out, &BALANCED, 3) {
-            let traces = Traces {
-                main: &main,
-                preprocessed: None,
-                public_values: &[],
-            };
-            let checked = check_constraints(trees.as_slice(), &traces);
-            show(out, "check_constraints", checked);
-        }
     }
 }
 
