@@ -448,11 +448,12 @@ struct volgwain_bound {
 };
 
 /* Says what constraints are shown to enforce of the lookups of an AIR, on each row of traces of a height, whatever else
-   is in them, on which the constraints are zero. So it holds of all traces that any prover picks. What is not shown may
-   still be so: 0 never says that something is wrong.
+   is in them, on which the constraints are zero. So it holds of all traces that any prover picks, on whose rows these
+   constraints are zero. What is not shown may still be so: 0 never says that something is wrong.
 
    constraints: the range of their nodes. Any may be left out: what is shown is then shown without them.
-   height: that of the traces. Over one row the first row is the last one too. Over none everything is shown.
+   height: that of the traces. Over one row the first row is the last one too. Over none everything is
+   shown (that is only tested; a plan refuses such an AIR with lookups).
    queries: a byte for each range in tables->tuples, 0 where its tuple is provided, and any other where it is a query. A
    lookup whose tuple is provided and one that queries it need ranges of their own.
    shown: exactly one for each lookup, in their order.
@@ -460,8 +461,8 @@ struct volgwain_bound {
 
    The weight of a lookup is kept if each query has a bound, and these bounds are at most the weight: each of them, if
    the lookup has flags that are shown to be lawful, and otherwise their sum. Of a provided entry nothing is asked.
-   Where flags are 1 for all lookups of all AIRs of a batch, the bound of volgwain_soundness_of_heights holds with no
-   condition on flags, of all traces on which the constraints are zero.
+   Where `flags` of each lookup of each AIR of a batch is 1, each AIR asked at its height in the batch, the bound of
+   volgwain_soundness_of_heights holds with no condition on flags, of all traces on which the constraints are zero.
 
    Refuses, in this order: 2, 11, 29, and 4 of the queries, of what is shown and of the bounds. Or 1. */
 VOLGWAIN_MUST_CHECK uint32_t volgwain_enforced(const struct volgwain_tables *tables,

@@ -13,7 +13,7 @@ abbrev pub refusal_text : RunRefusal → List ℕ
 refusal_text Memory = codes "error: out of memory\n"
 refusal_text (Told lines) = lines.items
 
--- The last line of a report: whether all messages balance; and that a constraint fails, or that a count is above what
+-- The verdict of a report: whether all messages balance; and that a constraint fails, or that a count is above what
 -- `at most` says, if one is.
 abbrev pub verdict_line : Bool → Bool → Bool → List ℕ
 verdict_line true true true = codes "\nBALANCED: every tuple of every bus and local lookup cancels\n"

@@ -79,7 +79,7 @@ module _ {F K : Type 0} (fields : Fields F K) (text : List ℕ) (files : List Fi
   -- The answer to `check`: there is a report of the lookups, the traces and the constraints that the files say, with as
   -- many tuples as are asked for, or 64 if those are fewer. The answer is yes if all messages balance, all constraints
   -- hold and no count is above what is said of it, and if, where that is asked, all flags and weights are shown to be
-  -- enforced; and no otherwise. Its last lines show which of these are so.
+  -- enforced; and no otherwise. Its last lines show which of these are so, unless it is JSON.
   pub record IsVerdict (number : F → ℕ) (limit max_degree : ℕ) (json enforced : Bool) (answer : Answer) : Type 0 where
     pub traced : List (Traced F)
     pub batch : IsReadBatch traced
@@ -97,7 +97,7 @@ module _ {F K : Type 0} (fields : Fields F K) (text : List ℕ) (files : List Fi
   -- The answer to `plan` and to `pack`: the text and the sizes of its AIRs can be read, no bus is declared twice, and
   -- there is a report of a plan of the lookups that the text says, and of what their constraints enforce; and the answer is
   -- yes if as many bits are left as are wanted, and if, where that is asked, all flags and weights are shown to be
-  -- enforced.
+  -- enforced. Its text is left to tests.
   pub record IsPlanned (max_degree challenges : ℕ) (target : Option ℕ) (enforced : Bool) (answer : Answer) : Type 0 where
     pub sections : List Section
     pub read : batch_at text ≡ Ok sections
