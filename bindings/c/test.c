@@ -3789,6 +3789,70 @@ static uint32_t enforce_deep(struct volgwain_refusal *refusal)
     return code;
 }
 
+/* ---- a constraint of a million nodes: differences of column 0, which are zero together, and m * m - m ---- */
+
+static struct volgwain_node large_nodes[VOLGWAIN_MOST_NODES];
+static size_t large_length;
+
+static void put_large(uint32_t kind)
+{
+    large_nodes[large_length].kind = kind;
+    large_length++;
+}
+
+/* column 0, as a difference of so many leaves: zero for a power of two above one */
+static void put_difference(size_t leaves)
+{
+    if (leaves == 1) {
+        put_large(VOLGWAIN_MAIN);
+        return;
+    }
+    put_difference(leaves / 2);
+    put_difference(leaves / 2);
+    put_large(VOLGWAIN_DIFFERENCE);
+}
+
+/* what the constraint enforces of column 0 as a flag and as a multiplicity */
+static void enforce_large(struct volgwain_enforced *shown, struct volgwain_bound *bound)
+{
+    struct volgwain_span list = {0, 0};
+    struct volgwain_record record = {0, 1, 1, {0, 0}, {0, 1}, {0, 1}, {0, 1}}; /* the first leaf */
+    struct volgwain_span tuple = {0, 0};
+    struct volgwain_tables tables = {large_nodes, large_length, &tuple, 1, NULL, 0, &record, 1};
+    struct volgwain_refusal refusal;
+    uint8_t query = 1;
+    list.end = large_length;
+    check(volgwain_enforced(&tables, &list, 3, &query, 1, shown, 1, bound, 1, &refusal, NULL, 0) == VOLGWAIN_OK,
+        "what a constraint of a million nodes enforces");
+}
+
+static void check_large_constraint(void)
+{
+    struct volgwain_enforced shown = {9, 9, 9, 9, 9};
+    struct volgwain_bound bound = {9, 9};
+    size_t leaves, parts = 0;
+    memset(large_nodes, 0, sizeof large_nodes);
+    large_length = 0;
+    for (leaves = VOLGWAIN_MOST_NODES / 4; leaves >= 8; leaves /= 2) {
+        put_difference(leaves);
+        parts++;
+    }
+    for (; parts > 1; parts--)
+        put_large(VOLGWAIN_SUM);
+    enforce_large(&shown, &bound);
+    check(is_shown(&shown, 0, 0, VOLGWAIN_MISSING_FLAG, VOLGWAIN_ROWS_FIRST, 0) && is_bound(&bound, 0, 0),
+        "nothing by what is always zero");
+    put_large(VOLGWAIN_MAIN);
+    put_large(VOLGWAIN_MAIN);
+    put_large(VOLGWAIN_PRODUCT);
+    put_large(VOLGWAIN_MAIN);
+    put_large(VOLGWAIN_DIFFERENCE);
+    put_large(VOLGWAIN_SUM);
+    enforce_large(&shown, &bound);
+    check(large_length > 1000000 && is_shown(&shown, 1, 1, 0, 0, 0) && is_bound(&bound, 1, 1),
+        "a bit by a constraint of a million nodes");
+}
+
 static void *run_deep_constraints(void *unused)
 {
     struct volgwain_refusal refusal;
@@ -3854,6 +3918,7 @@ int main(void)
     check_refused_laws();
     check_constraints();
     check_refused_constraints();
+    check_large_constraint();
     check_proving();
     check_air_by_air();
     check_generation_by_ids();

@@ -1,5 +1,5 @@
-"""What the program tells that constraints enforce, over F7: random AIRs of few cells, and each window of rows on which all
-constraints are zero."""
+"""What the program tells that constraints enforce, over F7: random AIRs of few cells, some with fixed columns, and each
+window of rows on which all constraints are zero."""
 import random
 
 from . import enforcing, meaning, objects, reading, telling
@@ -13,6 +13,10 @@ CELLS = ["a", "b", "c", "d"]
 SELECTORS = ["is_first_row", "is_last_row", "is_transition"]
 
 
+def table_of(names, rows):
+    return "".join(",".join(map(str, line)) + "\n" for line in [names, *rows]).encode()
+
+
 class Asserting:
     """An AIR over F7 whose constraints say something of the flags and counts of its lookups, more often than not."""
 
@@ -22,6 +26,10 @@ class Asserting:
         self.height = draw.choice([1, 1, 2, 2, 3, 4])
         # the weights times the heights are below 7
         self.room = 6 // self.height
+        head = [f"height {self.height}", f"columns ({', '.join(self.cells)})"]
+        self.files = self.tables() if draw.random() < 0.3 else {}
+        if self.files:
+            head = ['trace "t.csv"', 'preprocessed "p.csv"']
         self.bits, items = [], []
         for _ in range(draw.choice([0, 1, 2, 2, 3, 4])):
             items.append(self.assertion())
@@ -29,8 +37,21 @@ class Asserting:
             items.append(self.lookup())
         if draw.random() < 0.3:
             draw.shuffle(items)
-        head = [f"height {self.height}", f"columns ({', '.join(self.cells)})"]
         self.text = "air x {\n" + "".join(f"    {item}\n" for item in head + items) + "}\n"
+
+    def tables(self):
+        """A trace of numbers, and fixed columns: of each row at most one is 1, or they are bits, or numbers."""
+        draw, rows = self.draw, range(self.height)
+        trace = [[draw.choice([0, 0, 1]) for _ in self.cells] for _ in rows]
+        names = ["p", "q", "r"][: draw.choice([1, 2, 2, 3])]
+        most, one = draw.choice([1, 1, 1, 1, 6]), draw.random() < 0.6
+        fixed = [[draw.randint(0, most) for _ in names] for _ in rows]
+        if one:
+            chosen = [draw.randrange(len(names) + draw.choice([0, 1])) for _ in rows]
+            fixed = [[int(at == it) for at in range(len(names))] for it in chosen]
+        files = {"t.csv": table_of(self.cells, trace), "p.csv": table_of(names, fixed)}
+        self.cells = self.cells[:2] + [f"pre.{name}" for name in names]
+        return files
 
     def cell(self):
         cell = self.draw.choice(self.bits or self.cells) if self.draw.random() < 0.6 else self.draw.choice(self.cells)
@@ -97,13 +118,15 @@ class Asserting:
         return "exclusive {\n" + "".join(f"        when {it} {self.message()}\n" for it in flags) + "    }"
 
 
-def text_of_seed(seed):
-    return Asserting(random.Random(f"enforced {seed}")).text.encode()
+def files_of_seed(seed):
+    made = Asserting(random.Random(f"enforced {seed}"))
+    return {FILE: made.text.encode(), **made.files}
 
 
-def words_of_seed(seed):
+def words_of_seed(seed, files):
     draw = random.Random(f"words of enforced {seed}")
-    return ["plan", "--field", "f7", *["--json"] * (draw.random() < 0.6), *["--enforced"] * (draw.random() < 0.5)]
+    command = "check" if len(files) > 1 and draw.random() < 0.8 else "plan"
+    return [command, "--field", "f7", *["--json"] * (draw.random() < 0.6), *["--enforced"] * (draw.random() < 0.5)]
 
 
 # --- over the program ---
@@ -117,8 +140,9 @@ def enforced_swept(program, seeds):
     faults, all_of, some_of = [], 0, 0
     with room() as folder:
         for seed in seeds:
-            text, words = text_of_seed(seed), words_of_seed(seed)
-            faults += compared(program, folder, f"seed {seed}, {' '.join(words)}", {FILE: text}, words)
+            files = files_of_seed(seed)
+            words = words_of_seed(seed, files)
+            faults += compared(program, folder, f"seed {seed}, {' '.join(words)}", files, words)
             found = answer_of(program, [*words, FILE], folder).output
             some_of += b"TRUSTED" in found or b'"weight":false' in found or b'"flags":false' in found
             all_of += b"enforced  " in found or b" enforced\n" in found or b'"weight":true' in found

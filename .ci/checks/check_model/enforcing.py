@@ -7,6 +7,7 @@ import re
 
 from .fields import ASKED
 
+
 def line_of(text, at):
     return text.count(b"\n", 0, at) + 1
 
@@ -235,18 +236,37 @@ def python_of(expression, cells, kind):
     return f"(-{sides[0]})" if name == "negative" else f"({sides[0]} {name} {sides[1]})"
 
 
-def windows_of(air, cells, kind, seed):
+def fixed_rows_of(air, kind):
+    """The rows of a kind of the fixed columns."""
+    height = len(air.fixed.rows)
+    return [row for row in range(height) if (row == 0, row == height - 1) == kind]
+
+
+def held_on(air, cells, kind, over_fixed):
+    """For each row of a kind the cells that are fixed there, if that counts, with their values; every other cell is free.
+    Rows that are alike count once, and where nothing is fixed one row stands for all."""
+    if not over_fixed or not any(name == "fixed" for name, *_ in cells):
+        return [{}]
+    table, rows = air.fixed.rows, fixed_rows_of(air, kind)
+    value = lambda row, cell: table[(row + cell[2]) % len(table)][cell[1]] % ASKED.characteristic  # noqa: E731
+    held = [{cell: value(row, cell) for cell in cells if cell[0] == "fixed"} for row in rows]
+    return [dict(it) for it in dict.fromkeys(tuple(it.items()) for it in held)]
+
+
+def windows_of(air, cells, kind, seed, over_fixed):
     """The values of the cells on rows of a kind on which all constraints are zero: all of them, or some that are drawn."""
     modulus, names = ASKED.characteristic, ", ".join(cells.values())
     zeros = " and ".join(f"not {python_of(it.zero, cells, kind)} % {modulus}" for it in air.constraints) or "True"
     hold = eval(f"lambda {names}: {zeros}")  # pylint: disable=eval-used
-    if modulus ** len(cells) <= MOST_WINDOWS:
-        every = itertools.product(range(modulus), repeat=len(cells))
-    else:
-        draw = random.Random(f"windows {seed}")
-        few = [0, 0, 0, 1, 1, 1, 2, modulus - 1]
-        every = (tuple(draw.choice([*few, draw.randrange(modulus)]) for _ in cells) for _ in range(DRAWN))
-    return (window for window in every if hold(*window))
+    for held in held_on(air, cells, kind, over_fixed):
+        if modulus ** (len(cells) - len(held)) <= MOST_WINDOWS:
+            every = itertools.product(*([held[cell]] if cell in held else range(modulus) for cell in cells))
+        else:
+            draw = random.Random(f"windows {seed}")
+            few = [0, 0, 0, 1, 1, 1, 2, modulus - 1]
+            one = lambda: draw.choice([*few, draw.randrange(modulus)])  # noqa: E731
+            every = (tuple(held[cell] if cell in held else one() for cell in cells) for _ in range(DRAWN))
+        yield from (window for window in every if hold(*window))
 
 
 def values_on(expressions, cells, kind):
@@ -274,8 +294,9 @@ def fault_of(lookup, shown, flags, counts):
     return None
 
 
-def check_air(air, shown, seed):
-    """Whether what is told of the lookups of an AIR is so on each row on which its constraints are zero."""
+def check_air(air, shown, seed, over_fixed):
+    """Whether what is told of the lookups of an AIR is so on each row on which its constraints are zero; if that counts,
+    with the fixed cells that there are."""
     if not any(it.flags or it.weight or it.bounds for it in shown):
         return 0
     cells, tried = {}, 0
@@ -283,7 +304,7 @@ def check_air(air, shown, seed):
         leaves_of(expression, cells)
     for kind in kinds_of(len(air.main.rows)):
         worked = values_on(expressions_of(air), cells, kind)
-        for window in windows_of(air, cells, kind, seed):
+        for window in windows_of(air, cells, kind, seed, over_fixed):
             values, tried = iter(worked(*window)), tried + 1
             for lookup, it in zip(air.lookups, shown):
                 flags = [next(values) for branch in lookup.branches if branch.flag]
@@ -300,9 +321,9 @@ def expressions_of(air):
     return [it for lookup in air.lookups for it in flags(lookup) + [branch.count for branch in lookup.branches]]
 
 
-def check_all(airs, shown, seed=0):
+def check_all(airs, shown, over_fixed=False, seed=0):
     """Whether what is told is so, of all AIRs. Returns how many windows were tried."""
-    return sum(check_air(air, of_air, seed) for air, of_air in zip(airs, shown))
+    return sum(check_air(air, of_air, seed, over_fixed) for air, of_air in zip(airs, shown))
 
 
 # --- JSON ---

@@ -3,7 +3,7 @@ import json
 
 from . import counting, enforcing
 from .fields import ASKED, FIELDS
-from .telling import line_of, most_bits, signed, told_with
+from .telling import line_of, most_bits, signed, told_places, told_with
 
 
 class Json:
@@ -27,8 +27,8 @@ class EnforcedJson:
     """An answer that tells what constraints enforce. It has to be what `told` makes of what it tells; of that it is
     looked at whether it can be and is so."""
 
-    def __init__(self, _text, airs, told, is_all=None):
-        self.airs, self.told, self.is_all = airs, told, is_all
+    def __init__(self, _text, airs, told, is_all, over_fixed):
+        self.airs, self.told, self.is_all, self.over_fixed = airs, told, is_all, over_fixed
 
     def text(self):
         nothing = [[enforcing.Shown(None, None, [None for _ in it.parts]) for it in air.lookups] for air in self.airs]
@@ -40,7 +40,7 @@ class EnforcedJson:
             enforced = enforcing.shown_in(self.airs, value.get("airs") if isinstance(value, dict) else None)
             if wrong := next(unlike(self.told(enforced), value, "the answer"), None):
                 return wrong
-            enforcing.check_all(self.airs, enforced)
+            enforcing.check_all(self.airs, enforced, self.over_fixed)
         except (ValueError, enforcing.Untrue) as why:
             return str(why)
         wrong = self.is_all is not None and enforcing.is_all(enforced) != self.is_all
@@ -211,9 +211,11 @@ def planned(text, airs):
     return answers_of(text, airs, told, counting.is_met(bits))
 
 
-def answers_of(text, airs, told, well):
+def answers_of(text, airs, told, well, over_fixed=False):
     """The answer, or two of which one has to be."""
-    return told_with(EnforcedJson, text, airs, told, well) if enforcing.is_told(airs) else [(Json(told([])), well)]
+    if not enforcing.is_told(airs):
+        return [(Json(told([])), well)]
+    return told_with(EnforcedJson, text, airs, told, well, over_fixed)
 
 
 def checked(text, airs, messages):
@@ -241,7 +243,7 @@ def checked(text, airs, messages):
         front = {"format": 1, **before_traces(text, airs, made, is_checked=True), "traces": traces, "buses": buses}
         return {**front, "balanced": balanced, **of_rows, **all_enforced(airs, made)}
 
-    return answers_of(text, airs, told, balanced and hold and within)
+    return answers_of(text, airs, told, balanced and hold and within, over_fixed=True)
 
 
 def of_group(text, airs, group):
@@ -266,7 +268,7 @@ def of_tuple(text, airs, values, net, places):
         "tuple": list(map(str, values)),
         "net": str(signed(net)),
         "place_count": len(places),
-        "places": [of_place(text, airs[sent.air], sent) for sent in places[: ASKED.limit]],
+        "places": [of_place(text, airs[sent.air], sent) for sent in told_places(places)],
     }
 
 

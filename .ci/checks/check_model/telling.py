@@ -225,6 +225,15 @@ def tuple_told(fields, values):
     return b", ".join(b"%s%d" % pair for pair in zip(names, values))
 
 
+def told_places(places):
+    """The first places; if all of them send, or all receive, the first one that does otherwise in place of the last."""
+    first = places[: ASKED.limit]
+    signs = {counting.is_negative(sent.count) for sent in first}
+    known = places[: max(COMPARED, ASKED.limit)]
+    others = [sent for sent in known if {counting.is_negative(sent.count)} != signs]
+    return first[:-1] + others[:1] if len(first) > 1 and len(signs) == 1 and others else first
+
+
 def unbalanced_told(text, airs, declared, group):
     told, fields = b"", declared.get(group.name, [])
     for values, net, places in group.unbalanced[: ASKED.limit]:
@@ -232,7 +241,7 @@ def unbalanced_told(text, airs, declared, group):
         told += b"\nUNBALANCED on %s: (%s) is %s too often, by %s\n" % (
             group_name(airs, group.name), tuple_told(fields, values), how, grouped(abs(signed(net))),
         )  # fmt: skip
-        for sent in places[: ASKED.limit]:
+        for sent in told_places(places):
             air = airs[sent.air]
             lookup = air.lookups[sent.lookup]
             file = next(item.said[1] for item in air.said.items if item.kind == "trace")
@@ -260,21 +269,21 @@ def soundness_told(airs, messages, enforced):
     if unbalanced:
         left = counting.left_of(keys, unbalanced, widest)
         told += b"  " + left_told(left) + bits_told(*left)
-    return told + all_traces_told(airs, enforced)
+    return told + all_traces_told(airs, enforced, over_fixed=True)
 
 
 def left_told(left):
     return b"  all but %s betas leave at most %s alphas at which any witness is accepted\n" % tuple(map(grouped, left))
 
 
-def all_traces_told(airs, enforced):
+def all_traces_told(airs, enforced, over_fixed=False):
     most = counting.most_messages(airs)
     told = b"  whatever traces of these heights a prover picks: at most %s messages\n" % grouped(most)
     if most:
         left = counting.most_left(airs)
         told += b"    if they do not balance, all but %s betas leave at most %s alphas\n" % tuple(map(grouped, left))
         told += bits_told(*left)
-    return told + premise_told(airs, enforced)
+    return told + premise_told(airs, enforced, over_fixed)
 
 
 def constraints_told(text, airs):
@@ -317,24 +326,31 @@ def excesses_told(text, airs):
     return b"\nAT MOST (the first row on which a count is above it)\n" + told
 
 
+def with_fixed(airs, front, over_fixed):
+    """That fixed columns are what they are, if that counts and there are any."""
+    return front + b"with these fixed columns" if over_fixed and any(air.fixed for air in airs) else b""
+
+
 def where_they_hold(word, count):
     """That so many constraints hold, behind a word; nothing where there are none."""
     many = b" these %s constraints hold" % grouped(count) if count != 1 else b" this constraint holds"
     return word + many if count else b""
 
 
-def premise_told(airs, enforced):
+def premise_told(airs, enforced, over_fixed):
     """For which traces a bound holds, where it is told what constraints enforce. That may be nothing that is told."""
     if not enforcing.is_told(airs):
         return b""
-    told = b"    for all traces" + where_they_hold(b" on which", enforcing.constraint_count(airs))
+    fixed = with_fixed(airs, b" ", over_fixed)
+    told = b"    for all traces" + fixed
+    told += where_they_hold(b", on which" if fixed else b" on which", enforcing.constraint_count(airs))
     return told + (b"\n" if enforcing.is_all(enforced) else b", as long as what is marked TRUSTED is so\n")
 
 
-def enforced_told(text, airs, enforced):
+def enforced_told(text, airs, enforced, over_fixed=False):
     """The table of what constraints enforce."""
-    count = enforcing.constraint_count(airs)
-    told = b"  whatever traces of these heights a prover picks" + where_they_hold(b", where", count) + b":\n"
+    told = b"  whatever traces of these heights a prover picks" + with_fixed(airs, b", ", over_fixed)
+    told += where_they_hold(b", where", enforcing.constraint_count(airs)) + b":\n"
     lines, notes = [[b"air", b"lookup", b"flags", b"weight"]], [()]
     for air, of_air in zip(airs, enforced):
         for lookup, it in zip(air.lookups, of_air):
@@ -358,9 +374,9 @@ class Enforced:
     """A text that tells what constraints enforce, which has to be what `told` makes of what it tells: of that it is
     looked at whether it can be and is so. `is_all` is whether all has to be enforced of it, or None."""
 
-    def __init__(self, text, airs, told, is_all=None):
+    def __init__(self, text, airs, told, is_all, over_fixed):
         self.read = text, airs
-        self.told, self.is_all = told, is_all
+        self.told, self.is_all, self.over_fixed = told, is_all, over_fixed
 
     def text(self):
         """The text where nothing is told of any lookup."""
@@ -376,19 +392,20 @@ class Enforced:
             for air, of_air in zip(airs, enforced):
                 for lookup, it in zip(air.lookups, of_air):
                     enforcing.check_notes(text, lookup, len(air.main.rows), it)
-            enforcing.check_all(airs, enforced)
+            enforcing.check_all(airs, enforced, self.over_fixed)
         except enforcing.Untrue as why:
             return str(why)
         wrong = self.is_all is not None and enforcing.is_all(enforced) != self.is_all
         return f"status of {self.is_all}, where another answer is told" if wrong else None
 
 
-def told_with(kind, text, airs, told, well):
-    """What has to be written of this kind where it is told what constraints enforce, with the answer. If it is asked
-    whether all is enforced, that makes the answer as well, and so there are two."""
+def told_with(kind, text, airs, told, well, over_fixed=False):
+    """What has to be written of this kind where it is told what constraints enforce, with the answer; over the fixed
+    columns that there are, or any. If it is asked whether all is enforced, that makes the answer as well, and so there
+    are two."""
     if not ASKED.enforced or not well:
-        return [(kind(text, airs, told), well)]
-    return [(kind(text, airs, told, is_all), is_all) for is_all in (True, False)]
+        return [(kind(text, airs, told, None, over_fixed), well)]
+    return [(kind(text, airs, told, is_all, over_fixed), is_all) for is_all in (True, False)]
 
 
 # By whether all messages balance, all constraints hold, and no count is above its `at most`.
@@ -458,8 +475,10 @@ def report_told(text, airs, declared, messages):
 
     def told(enforced):
         middle = soundness_told(airs, messages, enforced) + of_constraints
-        middle += enforced_told(text, airs, enforced) if enforcing.is_told(airs) else b""
+        middle += enforced_told(text, airs, enforced, over_fixed=True) if enforcing.is_told(airs) else b""
         return front + middle + verdict + enforced_line(enforced)
 
     well = balanced and hold and not of_excesses
-    return told_with(Enforced, text, airs, told, well) if enforcing.is_told(airs) else [(told([]), well)]
+    if not enforcing.is_told(airs):
+        return [(told([]), well)]
+    return told_with(Enforced, text, airs, told, well, over_fixed=True)

@@ -1,7 +1,6 @@
 pub mod BitLaws
 mod BoundLaws
 mod ExclusiveLaws
-mod FixedLaws
 mod ProductLaws
 mod RecogniseLaws
 mod SumLaws

@@ -1,7 +1,6 @@
 pub mod Bounds
 pub mod Checked
 pub mod Facts
-pub mod Fixed
 pub mod Hold
 pub mod Kinds
 pub mod Polynomials

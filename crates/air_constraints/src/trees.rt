@@ -86,6 +86,7 @@ pub(crate) fn polynomial_of_cell<F: Field>(
 /// The polynomial of a leaf on rows of a kind.
 ///
 /// Fails only when out of memory.
+#[inline(never)]
 fn of_leaf<F: Field>(
     alloc: Global,
     leaf: BaseLeaf<F>,
@@ -107,6 +108,7 @@ fn of_leaf<F: Field>(
 /// The sum of terms and a multiple of others.
 ///
 /// Refuses `Large` if it has more than `limit` terms.
+#[inline(never)]
 pub fn limited_sum<F: Field>(
     alloc: Global,
     terms: Vec<Term<F>>,
@@ -144,6 +146,7 @@ fn degree<F: Field>(terms: &[Term<F>]) -> usize {
 ///
 /// Refuses `Large` if it has more than `limit` products of their terms, or if a term could have more than `DEGREE`
 /// cells.
+#[inline(never)]
 pub(crate) fn limited_product<F: Field>(
     alloc: Global,
     a: &[Term<F>],
@@ -164,6 +167,9 @@ pub(crate) fn limited_product<F: Field>(
 }
 
 /// A polynomial with the value of an expression on rows of a kind, as far as the facts lead.
+///
+/// It calls itself for each layer of the expression. What it calls beside is not inlined, so that a layer takes little
+/// of the stack.
 ///
 /// Refuses `Large` if a product of two sums on the way has more than `limit` products of their terms or could have more
 /// than 16 cells in one, or a sum has more than `limit` terms; and `Memory`. No clause says when it is too large.

@@ -42,7 +42,8 @@ module _ {F : Type 0} (traces : AirTraces F) (constraints : List (SymbolicExpres
   -- the refusal of constraints that read past the traces, or else of a preprocessed trace of another height
   abbrev pub IsConstraintsUnfit : Fault → Type 0
   IsConstraintsUnfit fault =
-      ((fault ≡ UnfitConstraints) × (¬ StayWithin (layout_of traces) constraints)) ⊎ ((fault ≡ Heights 0) × (¬ HaveOneHeight traces))
+      ((fault ≡ UnfitConstraints) × (¬ StayWithin (layout_of traces) constraints))
+      ⊎ ((fault ≡ Heights 0) × StayWithin (layout_of traces) constraints × (¬ HaveOneHeight traces))
 
   module _ (R : Ring F) where
     -- the constraints fit the traces, and are zero on each row of them

@@ -7,7 +7,7 @@ use check_judge::{
 };
 use check_page::{
     Lines, Page, Told, air_name, has_queries, is_constraint, is_lookup, lookup_at, message_at,
-    trace_file,
+    told_places, trace_file,
 };
 use check_report::is_enforcement_told;
 use check_words::BitsRequest;
@@ -645,7 +645,7 @@ fn tuple_object<'a, F: TableField>(
         tuple.push(decimal(alloc, u128::from(value.as_number()))?)?;
     }
     let mut places = Vec::new(alloc);
-    for place in unbalanced.places.iter().take(told.limit) {
+    for place in &told_places(alloc, &unbalanced.places, told.limit)? {
         places.push(place_object(alloc, told, place)?)?;
     }
     Ok(TupleObject {

@@ -10,6 +10,7 @@ use Rattle.language_meaning.specs.Columns.{constraints_in}
 use Rattle.language_meaning.specs.Lookups.{Said}
 use Rattle.language_meaning.specs.Shapes.{Shape}
 use Rattle.lookup_enforced.specs.Enforced.{EnforcesWeight, IsEnforcement}
+use Rattle.lookup_enforced.specs.Fixed.{FollowOver}
 use Rattle.lookup_enforced.specs.Weights.{StaysWithinWeight}
 use Rattle.lookup_enforced.specs.declared.enforcement.Enforcement.{Enforcement}
 use Rattle.lookup_model.specs.declared.types.Lookup.{Lookup}
@@ -25,10 +26,6 @@ pub record Asserted (F : Type 0) : Type 0 where
   pub constraints : List (SymbolicExpression F)
   pub counts : List (List SaidCount)
   pub height : ℕ
-
--- those of an AIR with its traces
-abbrev pub asserted_of : {F : Type 0} → Constrained F → Asserted F
-asserted_of x = record { lookups = x.lookups; constraints = x.constraints; counts = x.counts; height = height_of x.traces }
 
 -- Those of AIRs for traces of these shapes are what the AIRs say.
 pub record AreAsserted {F : Type 0} (element : ℕ → F) (text : List ℕ) (airs : List Air) (shapes : List Shape) (said : List Said) (xs : List (Asserted F)) : Type 0 where
@@ -54,6 +51,17 @@ module _ {F : Type 0} (R : Ring F) (eq : F → F → Bool) where
   -- so it is of each AIR
   abbrev pub AreEnforcedAirs : List (Asserted F) → List EnforcedAir → Type 0
   AreEnforcedAirs xs found = AllZip IsEnforcedAir xs found
+
+  -- What is shown of an AIR over its traces is so for constraints that hold on all traces of this height, with this
+  -- preprocessed trace, on which those of the AIR do.
+  pub record IsEnforcedOver (x : Constrained F) (found : EnforcedAir) : Type 0 where
+    pub known : List (SymbolicExpression F)
+    pub follow : FollowOver R x.traces.preprocessed (height_of x.traces) x.constraints known
+    pub enforced : IsEnforcedAir (record { lookups = x.lookups; constraints = known; counts = x.counts; height = height_of x.traces }) found
+
+  -- so it is of each AIR
+  abbrev pub AreEnforcedOver : List (Constrained F) → List EnforcedAir → Type 0
+  AreEnforcedOver xs found = AllZip IsEnforcedOver xs found
 
 -- all flags and all weights of an AIR are shown to be enforced
 pub record IsAllEnforced (found : EnforcedAir) : Type 0 where

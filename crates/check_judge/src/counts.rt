@@ -2,7 +2,7 @@
 ghost use Rattle.std.specs.Prelude.{◌≡◌, ◌∷◌, [], IfOk, map};
 ghost use Rattle.language.specs.Items.{group_part_of, placed_of};
 ghost use Rattle.language.specs.Messages.{message_of};
-ghost use Rattle.check_judge.specs.Counts.{count_of, counts_in, is_query};
+ghost use Rattle.check_judge.specs.Counts.{count_of, counts_for, counts_in, is_query};
 
 use language::{ItemText, MessageText, PartText, PlacedItem, Verb};
 use std::alloc::{AllocError, Global};
@@ -51,6 +51,17 @@ fn counts_of_parts(alloc: Global, parts: &[PartText]) -> Result<Vec<SaidCount>, 
         counts.push(count_of(&part.message))?;
     }
     Ok(counts)
+}
+
+/// What is said of the counts of the lookup with this number.
+pub(crate) fn counts_at(counts: &[Vec<SaidCount>], number: usize) -> &[SaidCount]
+    ensures { result.now ≡ counts_for (map (λ c. c.items) counts.now) number }
+{
+    if number < counts.len() {
+        counts[number].as_slice()
+    } else {
+        &[]
+    }
 }
 
 /// What is said of how often a message counts.

@@ -5,19 +5,20 @@ ghost use Rattle.lookup.specs.Lookups.{lookups_of};
 ghost use Rattle.lookup_enforced.specs.Enforced.{IsEnforcement};
 ghost use Rattle.check_judge.specs.Constraints.{over_constrained};
 ghost use Rattle.check_judge.specs.Counts.{counts_for, queries_of};
-ghost use Rattle.check_judge.specs.Enforced.{IsAllEnforced, IsEnforcedAir, IsWeightShown, asserted_of};
+ghost use Rattle.check_judge.specs.Airs.{AreFittingAirs, IsFittingAir};
+ghost use Rattle.check_judge.specs.Enforced.{IsAllEnforced, IsEnforcedAir, IsEnforcedOver, IsWeightShown};
 ghost use Rattle.check_judge.specs.internal.Asserted.{asserted_air_of};
 
 use crate::airs::AirOver;
-use crate::counts::SaidCount;
+use crate::counts::{SaidCount, counts_at};
 use air_expressions::SymbolicExpression;
 use field::Field;
 use lookup::{Lookup, Lookups};
-use lookup_enforced::{Enforcement, enforcements, keeps_weight};
+use lookup_enforced::{Enforcement, constraints_over_fixed, enforcements, keeps_weight};
 use std::alloc::{AllocError, Global};
 
 /// What the constraints of an AIR are shown to enforce of its lookups, on all traces of its height on whose rows they
-/// are zero. What is not shown may still be so.
+/// are zero, and which have its preprocessed trace where that is known. What is not shown may still be so.
 #[derive(Debug, Drop)]
 pub struct EnforcedAir {
     /// What is shown of the flags and the counts of each lookup, in the order of the text.
@@ -56,25 +57,39 @@ pub(crate) struct AssertedAir<'a, F> {
     pub(crate) height: usize,
 }
 
-/// What is shown of each AIR over its traces.
+/// What is shown of each AIR over its traces: for all traces of their heights that have their preprocessed ones.
 ///
 /// Fails only when out of memory.
 pub(crate) fn enforced_over<F: Field>(
     alloc: Global,
     airs: &[AirOver<F>],
 ) -> Result<Vec<EnforcedAir>, AllocError>
-    ensures { IfOk result (λ v. AllZip (λ air found. IsEnforcedAir F.ring F.eq
-        (asserted_of (over_constrained air)) found) airs.now v.items) }
+    requires { AreFittingAirs airs.now }
+    ensures { IfOk result (λ v. AllZip (λ air found. IsEnforcedOver F.ring F.eq
+        (over_constrained air) found) airs.now v.items) }
 {
     let mut enforced = Vec::with_capacity(alloc, airs.len())?;
     for index in 0..airs.len() {
-        let air = &airs[index];
-        let height = air.main.height();
-        let lookups = air.lookups.as_slice();
-        let shown = enforced_air(alloc, lookups, &air.constraints, &air.counts, height)?;
-        enforced.push(shown)?;
+        enforced.push(enforced_over_fixed(alloc, &airs[index])?)?;
     }
     Ok(enforced)
+}
+
+/// What is shown of an AIR for all traces of the height of its own that have its preprocessed one.
+///
+/// Fails only when out of memory.
+fn enforced_over_fixed<F: Field>(alloc: Global, air: &AirOver<F>) -> Result<EnforcedAir, AllocError>
+    requires { IsFittingAir air.now }
+    ensures { IfOk result (IsEnforcedOver F.ring F.eq (over_constrained air.now)) }
+{
+    let (lookups, height) = (air.lookups.as_slice(), air.main.height());
+    match &air.preprocessed {
+        None => Ok(enforced_air(alloc, lookups, &air.constraints, &air.counts, height)?),
+        Some(fixed) => {
+            let known = constraints_over_fixed(alloc, &air.constraints, lookups, fixed)?;
+            Ok(enforced_air(alloc, lookups, &known, &air.counts, height)?)
+        }
+    }
 }
 
 /// What is shown of each AIR before any trace is seen.
@@ -135,25 +150,10 @@ fn weights_kept<F: Field>(
     let mut weights = Vec::with_capacity(alloc, lookups.len())?;
     for index in 0..lookups.len() {
         let lookup = &lookups[index];
-        let queries = queries_for(alloc, counts, lookup.column)?;
+        let queries = queries_of(alloc, counts_at(counts, lookup.column))?;
         weights.push(keeps_weight(lookup, &shown[index], queries.as_slice()))?;
     }
     Ok(weights)
-}
-
-/// Which messages of the lookup with this number are queries.
-fn queries_for(
-    alloc: Global,
-    counts: &[Vec<SaidCount>],
-    number: usize,
-) -> Result<Vec<bool>, AllocError>
-    ensures { IfOk result (λ v. v.items ≡ queries_of (counts_for (map (λ c. c.items) counts.now) number)) }
-{
-    if number < counts.len() {
-        queries_of(alloc, counts[number].as_slice())
-    } else {
-        Ok(Vec::new(alloc))
-    }
 }
 
 /// Which of these messages are queries.

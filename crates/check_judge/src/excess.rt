@@ -8,7 +8,7 @@ ghost use Rattle.check_judge.specs.Counts.{counts_for};
 ghost use Rattle.check_judge.specs.Excesses.{AreExcesses, CountsMore, IsExcess, IsExcessFound, IsSetAt, IsWithin, most_of, size_of};
 
 use crate::airs::AirOver;
-use crate::counts::SaidCount;
+use crate::counts::{SaidCount, counts_at};
 use air::Traces;
 use air_constraints::value_on_row;
 use field_list::TableField;
@@ -79,17 +79,6 @@ fn excesses_over<F: TableField>(
         excesses.push(first_excess(lookup, said, traces))?;
     }
     Ok(excesses)
-}
-
-/// What is said of the counts of the lookup with this number.
-fn counts_at(counts: &[Vec<SaidCount>], number: usize) -> &[SaidCount]
-    ensures { result.now ≡ counts_for (map (λ c. c.items) counts.now) number }
-{
-    if number < counts.len() {
-        counts[number].as_slice()
-    } else {
-        &[]
-    }
 }
 
 /// The first message of a lookup that counts more on a row than is said, on the first such row.

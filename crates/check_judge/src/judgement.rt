@@ -43,7 +43,7 @@ pub struct PlannedAirs<F: Field> {
 /// packed within `max_degree`.
 ///
 /// Its lookups and constraints are those of `lookups_of`, over the field; its traces are the tables. What the constraints
-/// enforce is shown for all traces of the heights of these.
+/// enforce is shown for all traces of the heights of these that have the preprocessed ones of these.
 ///
 /// Refuses, in this order: a bus that is declared twice; another number of tables than of AIRs; then AIR by
 /// AIR a table without columns or rows or with a row that is not whole, the preprocessed one first, the

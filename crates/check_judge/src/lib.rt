@@ -1,6 +1,6 @@
 //! Batches that are written as text, judged: whether all messages balance and all constraints hold, how heavy
 //! and how sound the batch is, which tuples are sent too often, where constraints fail, what they enforce for all
-//! traces, and which counts are above what the text says.
+//! traces with the same fixed columns, and which counts are above what the text says.
 //!
 //! `judge` takes a batch of `language` and the tables of its AIRs over one field, and calls the
 //! lookup library over the lookups and traces that they say. `judge_plan` needs no tables, but how

@@ -1,5 +1,5 @@
 //! What is found of a batch.
-ghost use Rattle.std.specs.Prelude.{◌≡◌, ◌&&◌};
+ghost use Rattle.std.specs.Prelude.{◌≡◌, ◌&&◌, ℕ, ◌-◌, ◌*◌, ◌/◌};
 
 use crate::bits::Deceiving;
 use crate::constraints::ConstraintFailure;
@@ -45,7 +45,7 @@ pub struct PlanReport {
 #[derive(Debug, Drop)]
 pub struct PlanJudgement {
     pub report: PlanReport,
-    /// What the constraints are shown to enforce, whatever the traces of these heights are.
+    /// What the constraints are shown to enforce, whatever the traces of these heights are that have the preprocessed ones of these.
     pub enforced: EnforcedAirs,
 }
 
@@ -94,7 +94,11 @@ impl<F> Report<F> {
     }
 
     /// At how few challenges the batch is accepted over these traces, if it does not balance.
-    pub fn for_these_traces(&self) -> Deceiving {
+    pub fn for_these_traces(&self) -> Deceiving
+        ensures alphas { result.alphas ≡ self.now.counts.accepting_alphas }
+        ensures betas { (W : ℕ) → let k = self.now.counts.unbalanced in
+            self.now.counts.bad_betas ≡ W * k * (k - 1) / 2 → result.betas ≡ W * (k - 1) }
+    {
         Deceiving {
             betas: self.counts.linear_bad_betas(),
             alphas: self.counts.accepting_alphas,

@@ -1,6 +1,6 @@
 //! Text that grows, and lines whose cells stand below each other.
-ghost use Rattle.std.specs.Prelude.{◌≡◌, ◌++◌, [], OnOk, map};
-ghost use Rattle.check_page.specs.Shown.{shown_byte};
+ghost use Rattle.std.specs.Prelude.{◌≡◌, ◌++◌, [], OnOk, decimal, map};
+ghost use Rattle.check_page.specs.Shown.{comma_before, in_threes, shown_byte};
 
 use std::alloc::{AllocError, Global};
 
@@ -46,22 +46,43 @@ impl Page {
     }
 
     /// Appends a number in decimal digits.
-    pub fn number(&mut self, number: u128) -> Result<(), AllocError> {
+    pub fn number(&mut self, number: u128) -> Result<(), AllocError>
+        ensures { OnOk result (self.new.bytes.items ≡ self.old.bytes.items ++ decimal number) }
+    {
         let text = format!(in self.alloc; "{number}")?;
         self.word(text.as_str())
     }
 
-    /// Appends a number with a comma before each three digits.
-    pub fn grouped(&mut self, number: u128) -> Result<(), AllocError> {
+    /// Appends a number in decimal digits, with a comma between each three of them.
+    pub fn grouped(&mut self, number: u128) -> Result<(), AllocError>
+        ensures { OnOk result (self.new.bytes.items
+            ≡ self.old.bytes.items ++ in_threes (decimal number)) }
+    {
         let text = format!(in self.alloc; "{number}")?;
-        let digits = text.as_bytes();
-        for (index, digit) in digits.iter().enumerate() {
-            if index > 0 && digits.len().saturating_sub(index) % 3 == 0 {
-                self.bytes.push(b',')?;
-            }
-            self.bytes.push(*digit)?;
+        self.in_threes(text.as_bytes())
+    }
+
+    /// Appends digits, with a comma between each three of them.
+    fn in_threes(&mut self, digits: &[u8]) -> Result<(), AllocError>
+        ensures { OnOk result (self.new.bytes.items
+            ≡ self.old.bytes.items ++ in_threes digits.now) }
+    {
+        for index in 0..digits.len() {
+            self.bytes.push(digits[index])?;
+            self.comma_before(digits.len() - (index + 1))?;
         }
         Ok(())
+    }
+
+    /// Appends what is between a digit and the so many that follow.
+    fn comma_before(&mut self, count: usize) -> Result<(), AllocError>
+        ensures { OnOk result (self.new.bytes.items ≡ self.old.bytes.items ++ comma_before count) }
+    {
+        if count > 0 && count % 3 == 0 {
+            self.word(",")
+        } else {
+            self.word("")
+        }
     }
 
     /// Appends so many blanks.

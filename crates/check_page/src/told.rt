@@ -22,6 +22,8 @@ pub struct Told<'a> {
     pub max_degree: usize,
     /// Whether it is asked whether all flags and weights are enforced.
     pub enforced: bool,
+    /// Whether traces were looked at, and so the cells of fixed columns.
+    pub over_traces: bool,
 }
 
 /// The name of the AIR with this number.

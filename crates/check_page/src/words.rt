@@ -173,6 +173,11 @@ pub fn trace_file(air: &AirText, preprocessed: bool) -> Option<Span> {
     None
 }
 
+/// Whether any of these AIRs has fixed columns.
+pub fn have_fixed_columns(airs: &[&AirText]) -> bool {
+    airs.iter().any(|air| trace_file(air, true).is_some())
+}
+
 /// The name of the public value with this number.
 pub fn public_name<'a>(text: &'a [u8], air: &AirText, index: usize) -> &'a [u8] {
     let mut before = index;

@@ -1,6 +1,6 @@
 -- Lines of answers and refusals.
-use Rattle.std.specs.Prelude.{◌++◌, ℕ, Bool, true, false, List, [], codes, map}
-use Rattle.check_page.specs.Shown.{shown_byte}
+use Rattle.std.specs.Prelude.{◌++◌, ℕ, Bool, true, false, List, [], Option, None, Some, codes, decimal, map}
+use Rattle.check_page.specs.Shown.{in_threes, shown_byte}
 use Rattle.check_report.specs.declared.refusal.RunRefusal.{RunRefusal}
 use Rattle.check_report.specs.declared.refusal.RunRefusal.TheVariants.{Memory, Told}
 
@@ -30,3 +30,9 @@ abbrev pub enforced_line : Bool → Bool → List ℕ
 enforced_line false all = []
 enforced_line true true = codes "\nENFORCED: all flags and weights are shown to be enforced\n"
 enforced_line true false = codes "\nTRUSTED: not all flags and weights are shown to be enforced\n"
+
+-- the line that tells whether as many bits are left as are wanted, if some are
+abbrev pub target_line : Option ℕ → Bool → List ℕ
+target_line None is_met = []
+target_line (Some wanted) true = codes "  TARGET MET: " ++ (in_threes (decimal wanted) ++ codes " bits are wanted\n")
+target_line (Some wanted) false = codes "  TARGET MISSED: " ++ (in_threes (decimal wanted) ++ codes " bits are wanted\n")

@@ -1,4 +1,7 @@
 //! The bits that are left, as text.
+ghost use Rattle.std.specs.Prelude.{◌≡◌, ◌++◌, OnOk};
+ghost use Rattle.check_report.specs.Told.{target_line};
+
 use check_judge::Deceiving;
 use check_page::{Page, head, number_cell, word_cell};
 use check_words::BitsRequest;
@@ -22,15 +25,17 @@ pub(crate) fn push_bits(
 }
 
 /// Appends whether a target is met, if there is one.
-pub fn push_target(page: &mut Page, target: Option<u64>, is_met: bool) -> Result<(), AllocError> {
+pub fn push_target(page: &mut Page, target: Option<u64>, is_met: bool) -> Result<(), AllocError>
+    ensures { OnOk result (page.new.bytes.items ≡ page.old.bytes.items ++ target_line target is_met) }
+{
     let Some(wanted) = target else {
-        return Ok(());
+        return page.word("");
     };
-    page.word(if is_met {
-        "  TARGET MET: "
+    if is_met {
+        page.word("  TARGET MET: ")?;
     } else {
-        "  TARGET MISSED: "
-    })?;
+        page.word("  TARGET MISSED: ")?;
+    }
     page.grouped(u128::from(wanted))?;
     page.word(" bits are wanted\n")
 }

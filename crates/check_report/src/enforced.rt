@@ -5,8 +5,9 @@ ghost use Rattle.check_report.specs.Told.{enforced_line};
 use air_constraints::RowKind;
 use check_judge::{EnforcedAirs, PlanReport};
 use check_page::{
-    Around, Lines, Page, Told, air_name, constraint_count, flag_at, has_queries, head, is_lookup,
-    message_at, push_formula, push_lookup, shown_cell, weight_of, word_cell,
+    Around, Lines, Page, Told, air_name, constraint_count, flag_at, has_queries,
+    have_fixed_columns, head, is_lookup, message_at, push_formula, push_lookup, shown_cell,
+    weight_of, word_cell,
 };
 use language::{ItemText, MessageText, PlacedItem, Tree, Verb};
 use lookup_enforced::{Enforcement, Missing};
@@ -50,11 +51,27 @@ pub(crate) fn push_premise(
         return Ok(());
     }
     page.word("    for all traces")?;
-    push_where_they_hold(page, " on which", constraint_count(told.airs))?;
+    push_with_fixed(page, told, " with these fixed columns")?;
+    let word = if is_with_fixed(told) {
+        ", on which"
+    } else {
+        " on which"
+    };
+    push_where_they_hold(page, word, constraint_count(told.airs))?;
     if !enforced.all {
         page.word(", as long as what is marked TRUSTED is so")?;
     }
     page.word("\n")
+}
+
+/// Whether fixed columns were looked at.
+fn is_with_fixed(told: Told<'_>) -> bool {
+    told.over_traces && have_fixed_columns(told.airs)
+}
+
+/// Appends these words, if fixed columns were looked at.
+fn push_with_fixed(page: &mut Page, told: Told<'_>, words: &str) -> Result<(), AllocError> {
+    page.word(if is_with_fixed(told) { words } else { "" })
 }
 
 /// Appends, with a word before it, that so many constraints hold; nothing if there are none.
@@ -79,6 +96,7 @@ pub(crate) fn push_enforced(
     enforced: &EnforcedAirs,
 ) -> Result<(), AllocError> {
     page.word("  whatever traces of these heights a prover picks")?;
+    push_with_fixed(page, told, ", with these fixed columns")?;
     push_where_they_hold(page, ", where", constraint_count(told.airs))?;
     page.word(":\n")?;
     let alloc = page.alloc();

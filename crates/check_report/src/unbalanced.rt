@@ -1,7 +1,7 @@
 //! The tuples that do not balance, with the names and lines of their author.
 use check_judge::magnitude;
 use check_page::{
-    Page, Told, bus_named, characters, group_cell, lookup_at, push_lookup, trace_file,
+    Page, Told, bus_named, characters, group_cell, lookup_at, push_lookup, told_places, trace_file,
 };
 use field_list::TableField;
 use language::{Span, place_of};
@@ -35,7 +35,7 @@ pub(crate) fn push_unbalanced<F: TableField>(
     Ok(())
 }
 
-/// Appends an unbalanced tuple with the first of its places, at most as many as are told.
+/// Appends an unbalanced tuple with the places that are told of it.
 fn push_tuple<F: TableField>(
     page: &mut Page,
     told: Told<'_>,
@@ -54,11 +54,11 @@ fn push_tuple<F: TableField>(
     })?;
     page.grouped(magnitude(tuple.net))?;
     page.word("\n")?;
-    for place in tuple.places.iter().take(told.limit) {
+    let places = told_places(page.alloc(), &tuple.places, told.limit)?;
+    for place in &places {
         push_place(page, told, place.location, place.count)?;
     }
-    let listed = tuple.places.len().min(told.limit);
-    push_more_places(page, tuple.place_count.saturating_sub(listed))
+    push_more_places(page, tuple.place_count.saturating_sub(places.len()))
 }
 
 /// Appends the values of a tuple, each with its name where its bus declares one.

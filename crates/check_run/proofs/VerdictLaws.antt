@@ -14,7 +14,7 @@ if_asked true all p = (λ t asks. p.0 t, λ given. p.1 (given refl))
 if_asked false all p = (λ t asks. absurd (true≢false (sym asks)), λ given. refl)
 
 -- so is an answer that is yes exactly if it is good and all is so that is asked
-pub good_if_asked : {P A : Type 0} (good asked all answer : Bool) → answer ≡ (good && (not asked || all)) → IsTrue good ↔ P → IsTrue all ↔ A → IsTrue answer ↔ (P × (IsTrue asked → A))
+good_if_asked : {P A : Type 0} (good asked all answer : Bool) → answer ≡ (good && (not asked || all)) → IsTrue good ↔ P → IsTrue all ↔ A → IsTrue answer ↔ (P × (IsTrue asked → A))
 good_if_asked {P} {A} good asked all answer is p a =
     let V : Bool → Type 0 = λ x. IsTrue x ↔ (P × (IsTrue asked → A)) in
     subst V (sym is) (both_true {P = P} {Q = IsTrue asked → A} good (not asked || all) p (if_asked asked all a))

@@ -39,7 +39,7 @@ use Rattle.check_judge.specs.Shown.{AreConstraintsFound}
 use Rattle.check_judge.specs.declared.enforced.EnforcedAirs.{EnforcedAirs}
 use Rattle.check_judge.specs.Found.{IsFound, IsPlanFound, IsPlanOf, sized_of, sized_over}
 use Rattle.check_judge.specs.Said.{AreLookupsOf, AreSaid, SayOver, airs_of}
-use Rattle.check_report.specs.Told.{enforced_line, refusal_text, verdict_line}
+use Rattle.check_report.specs.Told.{enforced_line, refusal_text, target_line, verdict_line}
 use Rattle.program_ending.specs.Endings.{EndsAnswered, AnswerParts}
 use Rattle.program_ending.specs.Written.{AppendsFront}
 use Rattle.check_run.specs.declared.answer.Answer.{Answer}
@@ -61,9 +61,9 @@ decision_line false = codes "NO WITNESS: at these challenges none is accepted\n"
 abbrev pub unwritten_line : List ℕ
 unwritten_line = codes "error: the answer cannot be written\n"
 
--- the text ends with this line, unless it is JSON
+-- the text ends with this line, unless it has another form
 abbrev pub EndsWith : Bool → List ℕ → List ℕ → Type 0
-EndsWith json line text = json ≡ false → (front : List ℕ) × (text ≡ front ++ line)
+EndsWith is_other line text = is_other ≡ false → (front : List ℕ) × (text ≡ front ++ line)
 
 module _ {F K : Type 0} (fields : Fields F K) (text : List ℕ) (files : List File) where
   -- The lookups and the traces that the bytes of a file and the files that it names say, whose numbers are below the
@@ -97,8 +97,8 @@ module _ {F K : Type 0} (fields : Fields F K) (text : List ℕ) (files : List Fi
   -- The answer to `plan` and to `pack`: the text and the sizes of its AIRs can be read, no bus is declared twice, and
   -- there is a report of a plan of the lookups that the text says, and of what their constraints enforce; and the answer is
   -- yes if as many bits are left as are wanted, and if, where that is asked, all flags and weights are shown to be
-  -- enforced. Its text is left to tests.
-  pub record IsPlanned (max_degree challenges : ℕ) (target : Option ℕ) (enforced : Bool) (answer : Answer) : Type 0 where
+  -- enforced. Its last lines show which of these are so, unless it is JSON or tells the AIRs alone, as that to `pack`.
+  pub record IsPlanned (max_degree challenges : ℕ) (target : Option ℕ) (json enforced airs_alone : Bool) (answer : Answer) : Type 0 where
     pub sections : List Section
     pub read : batch_at text ≡ Ok sections
     pub distinct : distinct_buses text sections ≡ Ok tt
@@ -115,8 +115,11 @@ module _ {F K : Type 0} (fields : Fields F K) (text : List ℕ) (files : List Fi
     pub assertions : List (Asserted F)
     pub asserted : AreAsserted (of_nat fields.extension.base) text (airs_of sections) shapes said assertions
     pub enforces : AreEnforcedAirs fields.extension.base fields.extension.base_eq assertions shown.airs.items
-    pub yes : IsTrue answer.yes ↔ (MeetsTarget challenges target report.heights.bad_betas report.heights.accepting_alphas
-        × (IsTrue enforced → All IsAllEnforced shown.airs.items))
+    pub all_enforced : IsTrue shown.all ↔ All IsAllEnforced shown.airs.items
+    pub meets : Bool
+    pub is_met : IsTrue meets ↔ MeetsTarget challenges target report.heights.bad_betas report.heights.accepting_alphas
+    pub yes : answer.yes ≡ (meets && (not enforced || shown.all))
+    pub told : EndsWith (airs_alone || json) (target_line target meets ++ enforced_line enforced shown.all) answer.text.items
 
   -- The answer to `show`, which is yes: the text and the sizes of its AIRs can be read, no bus is declared twice, and the
   -- items of all AIRs say something.
@@ -175,8 +178,8 @@ module _ {F K : Type 0} (fields : Fields F K) (text : List ℕ) (files : List Fi
   -- as.
   abbrev pub AnswersOver : (F → ℕ) → ℕ → Task → List ℕ → Answer → Type 0
   AnswersOver number challenges (Check limit degree json enforced) witness answer = IsVerdict number limit degree json enforced answer
-  AnswersOver number challenges (Plan degree json target enforced) witness answer = IsPlanned degree challenges target enforced answer
-  AnswersOver number challenges (Pack degree json) witness answer = IsPlanned degree challenges None false answer
+  AnswersOver number challenges (Plan degree json target enforced) witness answer = IsPlanned degree challenges target json enforced false answer
+  AnswersOver number challenges (Pack degree json) witness answer = IsPlanned degree challenges None json false true answer
   AnswersOver number challenges (Show json) witness answer = IsShown answer
   AnswersOver number challenges (OfWitness words out) witness answer = IsWitnessed words answer
   AnswersOver number challenges (Accept words file) witness answer = IsAcceptance words witness answer
@@ -188,11 +191,12 @@ module _ (offers : Offers) where
   AnswersIn name task text files witness answer = HoldsOf name (λ F K o. AnswersOver o.fields text files o.number (challenges_in o) task witness answer) offers
 
   -- The answer to what is asked: to a task of a batch that of its field, and to `bits` yes if as many bits are left in
-  -- its field as are wanted.
+  -- its field as are wanted, which its last line shows, unless it is JSON.
   abbrev pub AnswersTo : Asked → List ℕ → List File → List ℕ → Answer → Type 0
   AnswersTo (Batch request) text files witness answer = AnswersIn request.field.now request.task text files witness answer
   AnswersTo (Bits request) text files witness answer = HoldsOf request.field.now (λ F K o.
       IsTrue answer.yes ↔ MeetsTarget (challenges_in o) request.target (request.width * (request.unbalanced - 1)) (alphas_of request.messages request.unbalanced)) offers
+      × EndsWith request.json (target_line request.target answer.yes) answer.text.items
 
   -- The answer to the words of a command line: to what they ask for; or, where they ask for help, one that is yes. Its
   -- text is left to tests.

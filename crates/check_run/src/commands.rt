@@ -1,10 +1,11 @@
 //! The commands about a batch, each from the bytes of its files to its answer.
-ghost use Rattle.std.specs.Prelude.{◌≡◌, ◌⊎◌, ◌&&◌, ◌||◌, Err, MatchResult, Ok, map, not, true};
+ghost use Rattle.std.specs.Prelude.{◌≡◌, ◌⊎◌, ◌&&◌, ◌||◌, ◌++◌, Err, MatchResult, Ok, OnOk, map, not, true};
 ghost use Rattle.language_meaning.specs.Files.{named_of};
 ghost use Rattle.language_meaning.specs.Shapes.{shape_of};
 ghost use Rattle.check_judge.specs.Causes.{IsBusRefusalOr, IsSayingRefusal};
 ghost use Rattle.check_run.specs.RunRefusals.{IsCheckRefused, IsPlanRefused, IsShowRefused, IsTaskRefused};
-ghost use Rattle.check_run.specs.Runs.{AnswersOver, IsPlanned, IsShown, IsVerdict};
+ghost use Rattle.check_report.specs.Told.{enforced_line, target_line};
+ghost use Rattle.check_run.specs.Runs.{AnswersOver, EndsWith, IsPlanned, IsShown, IsVerdict};
 ghost use Rattle.check_judge.specs.Said.{SayOver, airs_of};
 ghost use Rattle.language_meaning.specs.Buses.{distinct_buses};
 ghost use Rattle.language_meaning.specs.Lookups.{said_of};
@@ -14,7 +15,7 @@ use crate::answer::Answer;
 use crate::reading::{batch_of, shapes_in, tables_in};
 use crate::witness::{accept, any, witness};
 use check_json::{push_airs_json, push_lookups_json, push_plan_json, push_report_json};
-use check_judge::{JudgeFault, airs_named, airs_of, judge, judge_plan, sets_over};
+use check_judge::{JudgeFault, PlanJudgement, airs_named, airs_of, judge, judge_plan, sets_over};
 use check_page::{Page, Told};
 use check_report::{
     Given, RunRefusal, push_airs, push_enforced_line, push_lookups, push_plan, push_report,
@@ -25,7 +26,7 @@ use field_list::{FieldEntry, TableField};
 use field_words::{Challenge, Written};
 use language::BatchText;
 use language_meaning::{AirShape, NamedAir, check_buses};
-use std::alloc::Global;
+use std::alloc::{AllocError, Global};
 
 /// How many unbalanced tuples of a bus are looked at for those that differ in one value.
 const MOST_COMPARED: usize = 64;
@@ -140,6 +141,7 @@ fn check<F: TableField, EF: Challenge<F>>(
                 limit,
                 max_degree,
                 enforced,
+                over_traces: true,
             };
             if json {
                 push_report_json(&mut page, told, &report)?;
@@ -165,7 +167,8 @@ fn plan<F: TableField, EF: Challenge<F>>(
     ensures { let E = ⟦<EF as Written<F>>⟧.fields in
         let text = given.entry.text.now in
         let files = map named_of given.entry.files.now in
-        MatchResult result (IsPlanned E text files task.degree field.challenges task.target task.enforced)
+        MatchResult result (IsPlanned E text files task.degree field.challenges task.target task.json
+        task.enforced task.airs_alone)
         (λ e. (e ≡ RunRefusal.Memory) ⊎ IsPlanRefused E text files task.degree) }
 {
     let batch = batch_of(alloc, given)?;
@@ -182,25 +185,43 @@ fn plan<F: TableField, EF: Challenge<F>>(
                 limit: 0,
                 max_degree: task.degree,
                 enforced: task.enforced,
+                over_traces: false,
             };
-            let report = &judged.report;
-            let meets = report.for_all_traces().meets(field.challenges, task.target);
-            match (task.airs_alone, task.json) {
-                (true, true) => push_airs_json(&mut page, told, &report.airs)?,
-                (true, false) => push_airs(&mut page, told, &report.airs)?,
-                (false, true) => push_plan_json(&mut page, told, &judged, task.target, meets)?,
-                (false, false) => {
-                    push_plan(&mut page, told, &judged)?;
-                    push_target(&mut page, task.target, meets)?;
-                    push_enforced_line(&mut page, task.enforced, judged.enforced.all)?;
-                }
-            }
+            let bits_left = judged.report.for_all_traces();
+            let meets = bits_left.meets(field.challenges, task.target);
+            push_planned(&mut page, told, task, &judged, meets)?;
             Ok(Answer {
                 text: page.bytes,
                 yes: is_yes(meets, task.enforced, judged.enforced.all),
             })
         }
         Err(fault) => Err(RunRefusal::of_judge(alloc, given, &batch, fault)?),
+    }
+}
+
+/// Appends what is found of a batch before any trace is seen, as a task tells it. `meets` is whether as many bits are
+/// left as it wants.
+fn push_planned(
+    page: &mut Page,
+    told: Told<'_>,
+    task: PlanTask,
+    judged: &PlanJudgement,
+    meets: bool,
+) -> Result<(), AllocError>
+    ensures { OnOk result (EndsWith (task.airs_alone || task.json)
+        (target_line task.target meets ++ enforced_line task.enforced judged.now.enforced.all)
+        page.new.bytes.items) }
+{
+    let airs = judged.report.airs.as_slice();
+    match (task.airs_alone, task.json) {
+        (true, true) => push_airs_json(page, told, airs),
+        (true, false) => push_airs(page, told, airs),
+        (false, true) => push_plan_json(page, told, judged, task.target, meets),
+        (false, false) => {
+            push_plan(page, told, judged)?;
+            push_target(page, task.target, meets)?;
+            push_enforced_line(page, task.enforced, judged.enforced.all)
+        }
     }
 }
 

@@ -3,10 +3,10 @@ ghost use Rattle.std.specs.Prelude.{◌≡◌, ◌≢◌, ◌⊎◌, ◌↔◌, 
 ghost use Rattle.std.specs.Process.{exit_status};
 ghost use Rattle.language_meaning.specs.Files.{named_of};
 ghost use Rattle.check_judge.specs.Bits.{MeetsTarget, alphas_of};
-ghost use Rattle.check_report.specs.Told.{refusal_text};
+ghost use Rattle.check_report.specs.Told.{refusal_text, target_line};
 ghost use Rattle.check_report.specs.declared.refusal.RunRefusal.TheVariants.{Memory};
 ghost use Rattle.check_run.specs.RunRefusals.{IsAskedRefusal, IsRefusalIn, IsRunRefusal, IsTaskRefused};
-ghost use Rattle.check_run.specs.Runs.{AnswersIn, AnswersOver, AnswersTo, EndsWithAnswer, IsAnswer};
+ghost use Rattle.check_run.specs.Runs.{AnswersIn, AnswersOver, AnswersTo, EndsWith, EndsWithAnswer, IsAnswer};
 ghost use Rattle.check_run.specs.Told.{AnswersSaid, TellsWords};
 ghost use Rattle.check_words.specs.Line.{NameList, line_app};
 ghost use Rattle.check_words.specs.Words.{IsAsked, IsRefused};
@@ -45,8 +45,8 @@ pub struct Inputs<'a> {
 /// Writes the answer to `output`. If the run is refused, writes why to `errors`, and nothing to
 /// `output`. If the answer cannot be written, a part of it may be in `output`, and `errors` gets a line
 /// that says so. The status is 0 if the answer is yes, 1 if it is no, and 2 if the run is refused or a
-/// write fails. Tested, and not proved: what is printed of an answer but for the last line of `check` and
-/// the texts of `witness`, `accept` and `any`; the words of a refusal; that what goes to `errors` is
+/// write fails. Tested, and not proved: what is printed of an answer but for the last lines of `check`, `plan`
+/// and `bits` and the texts of `witness`, `accept` and `any`; the words of a refusal; that what goes to `errors` is
 /// whole unless a write fails; that an answer ends with status 2 only where a write fails; and that
 /// `accept` refuses no text of a witness.
 ///
@@ -219,7 +219,8 @@ fn bits<L: FieldList>(alloc: Global, request: BitsRequest<'_>) -> Result<Answer,
         (λ answer. HoldsOf field (λ F K o. IsTrue answer.yes
         ↔ MeetsTarget (challenges_in o) request.entry.target
         (request.entry.width * (request.entry.unbalanced - 1))
-        (alphas_of request.entry.messages request.entry.unbalanced)) L.offers)
+        (alphas_of request.entry.messages request.entry.unbalanced)) L.offers
+        × EndsWith request.entry.json (target_line request.entry.target answer.yes) answer.text.items)
         (λ e. (e ≡ RunRefusal.Memory) ⊎ All (λ other. other ≢ field) (names_of L.offers)) }
 {
     let Some(yes) = L::over(request.field, BitsTask { request }) else {

@@ -1,13 +1,14 @@
 //! Calls on the constraints of AIRs.
 use crate::sets::set;
 use air::{BaseEntry, Expression, SymbolicExpression, SymbolicVariable};
-use air_constraints::fixed_constraints;
 use batch_enforced::EnforcedPlan;
 use field::F7;
 use gate_memory_builders::airs::EachRecord;
 use gate_memory_builders::inputs::{LOCAL, LOOKUPS, alone, trace};
 use gate_memory_builders::show::{Out, input, show};
-use lookup_enforced::{ConstrainedLookups, enforcements};
+use lookup_enforced::{
+    ConstrainedLookups, constraints_over_fixed, enforcements, fixed_constraints,
+};
 use std::alloc::{AllocError, Global};
 
 /// `f * f - f`, where `f` is the cell that is the flag of the lookups.
@@ -75,5 +76,11 @@ pub fn constraints(alloc: Global, out: &mut Out) {
     if let Some(fixed) = trace::<F7>(alloc, out, &[1, 0, 0, 1], 2) {
         let found = fixed_constraints(alloc, &fixed, &[0, 1]);
         show(out, "fixed_constraints", found);
+        if let Some(list) = constraints_of(alloc, out) {
+            if let Some(set) = set(alloc, out, LOOKUPS) {
+                let all = constraints_over_fixed(alloc, &list, set.as_slice(), &fixed);
+                show(out, "constraints_over_fixed", all);
+            }
+        }
     }
 }

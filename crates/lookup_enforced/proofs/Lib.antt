@@ -1,4 +1,5 @@
 mod BoundLaws
+mod FixedLaws
 mod FlagLaws
 mod RowLaws
 pub mod WeightLaws

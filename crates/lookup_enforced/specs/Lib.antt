@@ -1,4 +1,5 @@
 pub mod Enforced
 pub mod Extraction
+pub mod Fixed
 pub mod Weights
 pub mod internal

@@ -1,4 +1,4 @@
-use Rattle.std.proofs.Common.{◌≡◌, ◌<◌, arith, length, map, subst, sym}
+use Rattle.std.proofs.Common.{◌<◌, ◌∙◌, ap, arith, length, map, subst, sym}
 use Rattle.std.proofs.lemmas.List.{take_all}
 use Rattle.std.specs.List.{AllZip, zip}
 use Rattle.list_laws.proofs.Zips.{AllZip-more, length_zip, zip_at}
@@ -21,7 +21,7 @@ loop-index-preserved g c =
     let within : i < length (zip lookups shown) = omega (arith, length_zip lookups shown c.requires, c.loop-index-test.true) in
     AllZip-more (λ p kept. IsWeightShown g.F.PrimeCharacteristicRing.ring g.F.PartialEq.eq p.0 p.1 (queries_of (counts_for counts p.0.column)) kept) (zip lookups shown) c.loop-index.weights.items _ i (lookup, e) (lookup, e) c.keeps_weight.result within
     (zip_at lookups shown i lookup e (sym c.requires) c.loop-index-test.true c.index-lookups-index.is c.index-shown-index.is) c.in_ok-push.ensures.items
-    (weight_shown g.F.PrimeCharacteristicRing.ring g.F.PartialEq.eq lookup e _ _ c.keeps_weight.result c.as_slice.ensures.value c.in_ok-queries.ensures c.keeps_weight.ensures.answer c.keeps_weight.ensures.enforced) c.loop-index.invariant
+    (weight_shown g.F.PrimeCharacteristicRing.ring g.F.PartialEq.eq lookup e c.in_ok-queries.queries.items (queries_of (counts_for counts lookup.column)) c.keeps_weight.result c.as_slice.ensures.value (c.in_ok-queries.ensures ∙ ap queries_of c.counts_at.ensures) c.keeps_weight.ensures.answer c.keeps_weight.ensures.enforced) c.loop-index.invariant
 
 pub returns : goal.returns
 returns g c =

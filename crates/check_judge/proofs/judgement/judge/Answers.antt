@@ -15,12 +15,11 @@ use Rattle.check_judge.specs.Said.{airs_of}
 use Rattle.check_judge.specs.Airs.{AreFittingAirs, over_traced}
 use Rattle.check_judge.specs.Constraints.{AreChecked, over_constrained}
 use Rattle.std.specs.List.{AllZip}
-use Rattle.check_judge.specs.Enforced.{AreEnforcedAirs, asserted_of}
+use Rattle.check_judge.specs.Enforced.{AreEnforcedOver, IsEnforcedOver}
 use Rattle.check_judge.specs.Excesses.{AreExcesses}
 use Rattle.check_judge.specs.declared.constraints.ConstraintFailure.{ConstraintFailure}
 use Rattle.check_judge.specs.declared.enforced.EnforcedAir.{EnforcedAir}
 use Rattle.check_judge.specs.declared.excess.Excess.{Excess}
-use Rattle.check_judge.proofs.EnforcedLaws.{enforced_of_airs}
 use Rattle.check_judge.proofs.ExcessLaws.{within_exactly}
 use Rattle.check_judge.proofs.SizeLaws.{images_zip}
 use Rattle.check_judge.specs.internal.Sizes.{sized_lookups_of}
@@ -37,6 +36,9 @@ bus_table-requires-clause-fit g c = λ k d lt. (fitting_instances c.deref-3.resu
 
 pub bus_table-requires-clause-heights : goal.bus_table-requires-clause-heights
 bus_table-requires-clause-heights g c = λ k d lt. (fitting_instances c.deref-3.result.now c.in_ok-airs.field-0.airs.items c.deref-4.result.now c.in_ok-instances.instances.items c.deref-3.ensures.value c.deref-4.ensures.value c.in_ok-instances.ensures c.in_ok-airs.ensures.fit k d lt).heights
+
+pub enforced_over-requires : goal.enforced_over-requires
+enforced_over-requires g c = subst AreFittingAirs (sym c.deref-10.ensures.value) c.in_ok-airs.ensures.fit
 
 pub report_plan-requires-clause-planned : goal.report_plan-requires-clause-planned
 report_plan-requires-clause-planned g c =
@@ -96,7 +98,7 @@ returns-clause-constraints g c =
     let shown = c.of_airs-enforced.result.airs.items in
     let checked = subst (λ over. AreChecked R (map over_constrained over) found) c.deref-8.ensures.value (checked_over R c.deref-8.result.now found c.in_ok-failures.ensures) in
     let told = subst (λ (fs : List (Option (ConstraintFailure _))). IsTrue c.all_hold-hold.result ↔ All (λ failure. failure ≡ None) fs) c.deref-9.ensures.value c.all_hold-hold.ensures in
-    let enforced = subst (λ over. AreEnforcedAirs R eq (map asserted_of (map over_constrained over)) c.in_ok-enforced_over.field-0.items) c.deref-10.ensures.value (enforced_of_airs R eq c.deref-10.result.now c.in_ok-enforced_over.field-0.items c.in_ok-enforced_over.ensures) in
+    let enforced = subst (λ over. AreEnforcedOver R eq (map over_constrained over) c.in_ok-enforced_over.field-0.items) c.deref-10.ensures.value (images_zip (IsEnforcedOver R eq) over_constrained c.deref-10.result.now c.in_ok-enforced_over.field-0.items c.in_ok-enforced_over.ensures) in
     let excesses = subst (λ over. AllZip (λ x f. AreExcesses p number R eq x f.items) (map over_constrained over) above) c.deref-11.ensures.value (images_zip (λ x f. AreExcesses p number R eq x f.items) over_constrained c.deref-11.result.now above c.in_ok-excesses.ensures) in
     let within = subst (λ (fs : List (Vec (Option (Excess _)) Global)). IsTrue c.are_all_within-within.result ↔ All (λ f. All (λ e. e ≡ None) f.items) fs) c.deref-12.ensures.value c.are_all_within-within.ensures in (
       map over_constrained airs,
@@ -104,7 +106,7 @@ returns-clause-constraints g c =
       record {
         checked = checked;
         hold = hold_exactly R (map over_constrained airs) found c.all_hold-hold.result checked told;
-        enforced = subst (λ (v : Vec EnforcedAir Global). AreEnforcedAirs R eq (map asserted_of (map over_constrained airs)) v.items) (sym c.of_airs-enforced.ensures.airs) enforced;
+        enforced = subst (λ (v : Vec EnforcedAir Global). AreEnforcedOver R eq (map over_constrained airs) v.items) (sym c.of_airs-enforced.ensures.airs) enforced;
         all_enforced = c.of_airs-enforced.ensures.all;
         excesses = excesses;
         within = within_exactly p number R eq (map over_constrained airs) above c.are_all_within-within.result excesses within;

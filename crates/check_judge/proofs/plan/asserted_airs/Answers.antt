@@ -1,4 +1,4 @@
-use Rattle.std.proofs.Common.{◌≡◌, ◌∙◌, ◌<◌, ap, arith, length, map, refl, sym}
+use Rattle.std.proofs.Common.{◌∙◌, ◌<◌, ap, arith, length, map, refl, sym}
 use Rattle.std.proofs.lemmas.List.{take_all}
 use Rattle.air_expressions.specs.Tree.{tree_of}
 use Rattle.field.specs.Ring.{of_nat}

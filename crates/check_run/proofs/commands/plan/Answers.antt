@@ -13,7 +13,6 @@ use Rattle.check_judge.specs.declared.fault.JudgeFault.{JudgeFault}
 use Rattle.check_judge.specs.declared.fault.JudgeFault.TheVariants as fault
 use Rattle.check_judge.proofs.JudgeLaws.{planned_over}
 use Rattle.check_run.proofs.RunRefusalLaws.{read_refused}
-use Rattle.check_run.proofs.VerdictLaws.{good_if_asked}
 use Rattle.check_run.proofs.commands.plan.Goals as goal
 
 pub returns-in-Ok : goal.returns-in-Ok
@@ -44,7 +43,11 @@ returns-in-Ok g c =
       assertions = found.4;
       asserted = subst (λ ss. AreAsserted (of_nat g.F.PrimeCharacteristicRing.ring) text (airs_of sections) (map shape_of ss) found.1 found.4) c.deref.ensures.value found.8;
       enforces = found.9;
-      yes = good_if_asked c.meets-meets.result c.args.task.enforced enforced.all c.is_yes.result c.is_yes.ensures target found.10;
+      all_enforced = found.10;
+      meets = c.meets-meets.result;
+      is_met = target;
+      yes = c.is_yes.ensures;
+      told = c.in_ok-push_planned-in-Ok.ensures;
     }
 
 pub returns : goal.returns

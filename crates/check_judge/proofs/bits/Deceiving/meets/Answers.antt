@@ -1,4 +1,4 @@
-use Rattle.std.proofs.Common.{◌≡◌, ◌⊎◌, ◌+◌, ◌*◌, ◌^◌, ◌-◌, ◌≤◌, ◌↔◌, IsTrue, min, subst}
+use Rattle.std.proofs.Common.{◌≡◌, ◌⊎◌, ◌*◌, ◌^◌, ◌≤◌, ◌↔◌, IsTrue, subst}
 use Rattle.check_judge.proofs.BitLaws.{target_met}
 use Rattle.check_judge.proofs.bits.Deceiving.meets.Goals as goal
 

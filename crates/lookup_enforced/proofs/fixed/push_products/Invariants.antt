@@ -1,5 +1,5 @@
-use Rattle.air_constraints.specs.Fixed.{HoldOverFixed}
-use Rattle.air_constraints.proofs.fixed.push_products.Given as goal
+use Rattle.lookup_enforced.specs.Fixed.{HoldOverFixed}
+use Rattle.lookup_enforced.proofs.fixed.push_products.Given as goal
 
 abbrev pub invariant-loop-column : goal.invariant-loop-column
 invariant-loop-column g l =
