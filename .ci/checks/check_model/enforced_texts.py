@@ -5,7 +5,7 @@ import random
 from . import enforcing, meaning, objects, reading, telling
 from .comparing import compared
 from .fields import ask
-from .running import FILE, answer_of, room
+from .running import FILE, answer_of, room, written
 
 # --- random AIRs ---
 
@@ -131,24 +131,37 @@ def words_of_seed(seed, files):
 
 # --- over the program ---
 
-# Of these AIRs at least so many parts tell that something is enforced, and that something is not.
-LEAST = 0.25
+# Of these AIRs at least so many parts tell that something is enforced, and that something is not; and of those with fixed
+# columns at least so many tell more once the cells of these are looked at.
+LEAST, LEAST_BY_FIXED = 0.25, 0.1
+
+
+def unshown_in(found):
+    """How much an answer tells that is not shown to be enforced."""
+    return sum(found.count(it) for it in (b"TRUSTED", b'"weight":false', b'"flags":false'))
 
 
 def enforced_swept(program, seeds):
     """What is told of the random AIRs of these seeds, beside each window on which their constraints are zero."""
-    faults, all_of, some_of = [], 0, 0
+    faults, all_of, some_of, checked, by_fixed = [], 0, 0, 0, 0
     with room() as folder:
         for seed in seeds:
             files = files_of_seed(seed)
             words = words_of_seed(seed, files)
             faults += compared(program, folder, f"seed {seed}, {' '.join(words)}", files, words)
             found = answer_of(program, [*words, FILE], folder).output
-            some_of += b"TRUSTED" in found or b'"weight":false' in found or b'"flags":false' in found
+            some_of += unshown_in(found) > 0
             all_of += b"enforced  " in found or b" enforced\n" in found or b'"weight":true' in found
-    for what, count in (("enforced", all_of), ("trusted", some_of)):
-        if count < LEAST * len(seeds):
-            faults.append(f"of {len(seeds)} AIRs only {count} have something {what}")
+            if words[0] == "check" and found:
+                checked += 1
+                by_fixed += unshown_in(found) < unshown_in(answer_of(program, ["plan", *words[1:], FILE], folder).output)
+    for what, count, least in (
+        ("something enforced", all_of, LEAST * len(seeds)),
+        ("something trusted", some_of, LEAST * len(seeds)),
+        ("more enforced by fixed columns", by_fixed, LEAST_BY_FIXED * checked),
+    ):
+        if count < least:
+            faults.append(f"of {len(seeds)} AIRs only {count} have {what}")
     return len(seeds), faults, {}
 
 
@@ -184,21 +197,46 @@ JUDGED = [
 ]  # fmt: skip
 
 
-def air_of(items, height):
+# The same of an AIR with fixed columns p and q of three rows, whether it is so for these cells, and whether for all.
+PAIR = "exclusive {\nwhen pre.p query m(1)\nwhen %s query m(1)\n}"
+JUDGED_OVER_FIXED = [
+    (PAIR % "pre.q", "1,0\n0,1\n0,0", (True, True, [1, 1]), True, False),
+    (PAIR % "pre.q", "1,0\n1,1\n0,1", (True, True, [1, 1]), False, False),
+    (PAIR % "pre.q", "1,0\n2,0\n0,1", (True, True, [1, 1]), False, False),
+    (PAIR % "next(pre.q)", "1,0\n0,0\n0,1", (True, True, [1, 1]), True, False),
+    (PAIR % "next(pre.q)", "0,1\n0,0\n1,0", (True, True, [1, 1]), False, False),
+    ("query m(1) times pre.p at most 1", "0,0\n1,0\n1,0", (None, True, [1]), True, False),
+    ("query m(1) times pre.p at most 1", "0,0\n1,0\n2,0", (None, True, [1]), False, False),
+    ("assert bool pre.p\nquery m(1) times pre.p at most 1", "0,0\n1,0\n1,0", (None, True, [1]), True, True),
+]  # fmt: skip
+
+
+def air_of(items, height, folder=""):
     """The AIR of these items, over F7."""
     ask(b"f7")
     text = f"air x {{\nheight {height}\ncolumns (a, b)\n{items}\n}}\n".encode()
-    return text, meaning.planned_of(reading.batch_of(text), "")
+    return text, meaning.planned_of(reading.batch_of(text), folder)
 
 
-def is_so(items, height, told):
+def are_so(airs, told, over_fixed=False):
     """Whether what is told of the lookups of an AIR is so."""
-    _, airs = air_of(items, height)
     try:
-        enforcing.check_all(airs, [[enforcing.Shown(*it) for it in told]])
+        enforcing.check_all(airs, [[enforcing.Shown(*it) for it in told]], over_fixed)
         return True
     except enforcing.Untrue:
         return False
+
+
+def is_so(items, height, told):
+    return are_so(air_of(items, height)[1], told)
+
+
+def is_so_over_fixed(items, table, told):
+    """Whether it is so for the cells of a fixed table, and whether for all."""
+    with room() as folder:
+        written(folder, {"p.csv": f"p,q\n{table}\n".encode()})
+        airs = air_of(f'preprocessed "p.csv"\n{items}', 3, folder)[1]
+        return are_so(airs, [told], over_fixed=True), are_so(airs, [told])
 
 
 # An AIR of three rows, what is told of it in a text and in JSON, and in which part of either something stands in place of
@@ -267,6 +305,8 @@ def rows():
     """What is judged, how many faults are found, and how many have to be."""
     for items, height, told, wanted in JUDGED:
         yield f"{items!r}, {height} rows, {told}", is_so(items, height, told), wanted
+    for items, table, told, *wanted in JUDGED_OVER_FIXED:
+        yield f"{items!r}, {table!r}, {told}", is_so_over_fixed(items, table, told), tuple(wanted)
     of_text, of_json = answers()
     yield "the table of a plan", TABLE in of_text[1], True
     for (wanted, answer), spoilt in ((of_text, SPOILT), (of_json, SPOILT_JSON)):
