@@ -1,5 +1,6 @@
 //! The bits that are left, as text.
-ghost use Rattle.std.specs.Prelude.{◌≡◌, ◌++◌, OnOk};
+ghost use Rattle.std.specs.Prelude.{◌≡◌, ◌++◌, OnOk, codes, decimal};
+ghost use Rattle.check_page.specs.Shown.{in_threes};
 ghost use Rattle.check_report.specs.Told.{target_line};
 
 use check_judge::Deceiving;
@@ -28,14 +29,19 @@ pub(crate) fn push_bits(
 pub fn push_target(page: &mut Page, target: Option<u64>, is_met: bool) -> Result<(), AllocError>
     ensures { OnOk result (page.new.bytes.items ≡ page.old.bytes.items ++ target_line target is_met) }
 {
-    let Some(wanted) = target else {
-        return page.word("");
-    };
-    if is_met {
-        page.word("  TARGET MET: ")?;
-    } else {
-        page.word("  TARGET MISSED: ")?;
+    match (target, is_met) {
+        (None, _) => page.word(""),
+        (Some(wanted), true) => push_wanted(page, "  TARGET MET: ", wanted),
+        (Some(wanted), false) => push_wanted(page, "  TARGET MISSED: ", wanted),
     }
+}
+
+/// Appends, behind these words, how many bits are wanted.
+fn push_wanted(page: &mut Page, front: &str, wanted: u64) -> Result<(), AllocError>
+    ensures { OnOk result (page.new.bytes.items ≡ page.old.bytes.items
+        ++ (front.now ++ (in_threes (decimal wanted) ++ codes " bits are wanted\n"))) }
+{
+    page.word(front)?;
     page.grouped(u128::from(wanted))?;
     page.word(" bits are wanted\n")
 }
