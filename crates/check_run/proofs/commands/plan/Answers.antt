@@ -24,8 +24,8 @@ returns-in-Ok g c =
     let lookups = found.2 in
     let report = c.in-Ok.judged.report in
     let enforced = c.in-Ok.judged.enforced in
-    let meets = subst (λ alphas. IsTrue c.meets-meets.result ↔ MeetsTarget c.args.field.challenges c.args.task.target c.for_all_traces.result.betas alphas) c.for_all_traces.ensures.1 c.meets-meets.ensures in
-    let target = subst (λ betas. IsTrue c.meets-meets.result ↔ MeetsTarget c.args.field.challenges c.args.task.target betas report.heights.accepting_alphas) c.for_all_traces.ensures.0 meets in
+    let meets = subst (λ alphas. IsTrue c.meets-meets.result ↔ MeetsTarget c.args.field.challenges c.args.task.target c.for_all_traces-bits_left.result.betas alphas) c.for_all_traces-bits_left.ensures.1 c.meets-meets.ensures in
+    let target = subst (λ betas. IsTrue c.meets-meets.result ↔ MeetsTarget c.args.field.challenges c.args.task.target betas report.heights.accepting_alphas) c.for_all_traces-bits_left.ensures.0 meets in
     record {
       sections = sections;
       read = c.in_ok-batch.ensures;
