@@ -27,7 +27,7 @@ class Asserting:
         # the weights times the heights are below 7
         self.room = 6 // self.height
         head = [f"height {self.height}", f"columns ({', '.join(self.cells)})"]
-        self.files = self.tables() if draw.random() < 0.3 else {}
+        self.files = self.tables() if draw.random() < 0.5 else {}
         if self.files:
             head = ['trace "t.csv"', 'preprocessed "p.csv"']
         self.bits, items = [], []
@@ -133,7 +133,7 @@ def words_of_seed(seed, files):
 
 # Of these AIRs at least so many parts tell that something is enforced, and that something is not; and of those with fixed
 # columns at least so many tell more once the cells of these are looked at.
-LEAST, LEAST_BY_FIXED = 0.25, 0.1
+LEAST, LEAST_BY_FIXED = 0.25, 0.05
 
 
 def unshown_in(found):
