@@ -45,7 +45,7 @@ pub struct PlanReport {
 #[derive(Debug, Drop)]
 pub struct PlanJudgement {
     pub report: PlanReport,
-    /// What the constraints are shown to enforce, whatever the traces of these heights are that have the preprocessed ones of these.
+    /// What the constraints are shown to enforce, whatever the traces of these heights are.
     pub enforced: EnforcedAirs,
 }
 
@@ -77,7 +77,8 @@ pub struct Report<F> {
     pub failures: Vec<Option<ConstraintFailure<F>>>,
     /// Whether all constraints are zero on all rows.
     pub hold: bool,
-    /// What the constraints are shown to enforce, whatever the traces of these heights are.
+    /// What the constraints are shown to enforce, whatever the traces of these heights are that have the preprocessed ones
+    /// of these.
     pub enforced: EnforcedAirs,
     /// For each AIR and each lookup, in their order, a count that is above what `at most` says, if one is.
     pub excesses: Vec<Vec<Option<Excess<F>>>>,

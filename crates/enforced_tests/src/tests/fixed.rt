@@ -146,8 +146,14 @@ fn sums_of_fixed_columns(rt: HostRuntime) {
     holds(&rt, "shown", shown.first().expect(&rt, "a lookup").flags);
 }
 
-/// How many constraints are found of so many columns, of which each row sets one, or none on a further row.
-fn found_of<F: Field>(rt: &impl Abort, alloc: Global, count: usize, has_empty_row: bool) -> usize {
+/// So many constraints are found of so many columns, of which each row sets one, or none on a further row.
+fn finds<F: Field>(
+    rt: &impl Abort,
+    alloc: Global,
+    count: usize,
+    has_empty_row: bool,
+    wanted: usize,
+) {
     let (mut cells, mut columns) = (Vec::new(alloc), Vec::new(alloc));
     for row in 0..count {
         columns.push(row).expect(rt, "memory");
@@ -165,7 +171,10 @@ fn found_of<F: Field>(rt: &impl Abort, alloc: Global, count: usize, has_empty_ro
     assert!(rt; is_whole, "whole rows");
     let trace = RowMajorMatrix::new(cells, count);
     let known = fixed_constraints(alloc, &trace, columns.as_slice()).expect(rt, "memory");
-    known.len()
+    assert!(rt;
+        known.len() == wanted,
+        "of {count} columns, {has_empty_row}"
+    );
 }
 
 /// Two constraints for each column, and two for their sum: if it is one, however many there are; if it is a bit, of 63
@@ -174,31 +183,11 @@ fn found_of<F: Field>(rt: &impl Abort, alloc: Global, count: usize, has_empty_ro
 #[test]
 fn many_fixed_columns(rt: HostRuntime) {
     let alloc = rt.alloc();
-    holds(
-        &rt,
-        "one of 64",
-        found_of::<BabyBear>(&rt, alloc, 64, false) == 130,
-    );
-    holds(
-        &rt,
-        "a bit of 63",
-        found_of::<BabyBear>(&rt, alloc, 63, true) == 128,
-    );
-    holds(
-        &rt,
-        "a bit of 64",
-        found_of::<BabyBear>(&rt, alloc, 64, true) == 128,
-    );
-    holds(
-        &rt,
-        "six over F7",
-        found_of::<F7>(&rt, alloc, 6, false) == 14,
-    );
-    holds(
-        &rt,
-        "seven over F7",
-        found_of::<F7>(&rt, alloc, 7, false) == 56,
-    );
+    finds::<BabyBear>(&rt, alloc, 64, false, 130);
+    finds::<BabyBear>(&rt, alloc, 63, true, 128);
+    finds::<BabyBear>(&rt, alloc, 64, true, 128);
+    finds::<F7>(&rt, alloc, 6, false, 14);
+    finds::<F7>(&rt, alloc, 7, false, 56);
 }
 
 /// What a preprocessed trace says of the columns that flags and counts read stands behind the constraints: of each that it
